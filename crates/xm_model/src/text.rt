@@ -1,0 +1,67 @@
+//! Bytes of text, appended piece by piece.
+
+ghost use Rattle.std.specs.Prelude.{◌≡◌, [], ◌++◌, OnOk, OnErr};
+ghost use Rattle.std.specs.Fmt.{signed_decimal};
+
+use crate::memory::OutOfMemory;
+use std::alloc::Global;
+use std::marker::Model;
+
+/// Bytes of text. A contract sees them, and their room, as it sees a `List<u8>`.
+#[derive(Drop)]
+pub struct Text {
+    bytes: Vec<u8>,
+}
+
+impl Model for Text {
+    ghost use Rattle.std.specs.Prelude.{ℕ};
+    ghost use Rattle.std.specs.Coded.{coded_ℕ};
+    ghost use Rattle.xm_model.specs.Listing.{Listing, listing_code};
+
+    ghost Value = { Listing ℕ };
+
+    ghost coded = { listing_code coded_ℕ };
+
+    ghost use Rattle.std.specs.Vec.{vec_capacity};
+
+    ghost view = { λ t. record { items = t.bytes.items; room = vec_capacity t.bytes } };
+}
+
+impl Text {
+    /// An empty text. It takes no memory, and later calls take theirs from `alloc`.
+    pub fn new(alloc: Global) -> Text
+        ensures items { result.items ≡ [] }
+        ensures room { result.room ≡ 0 }
+    {
+        Text {
+            bytes: Vec::new(alloc),
+        }
+    }
+
+    /// Lends the bytes.
+    pub fn as_bytes(&self) -> &[u8]
+        ensures { result.now ≡ self.now.items }
+    {
+        self.bytes.as_slice()
+    }
+
+    /// Appends the bytes. On refusal the text stays.
+    pub fn push_bytes(&mut self, b: &[u8]) -> Result<(), OutOfMemory>
+        ensures ok { OnOk result (self.new.items ≡ self.old.items ++ b.now) }
+        ensures err { OnErr result (self.new.items ≡ self.old.items) }
+    {
+        self.bytes.extend_from_slice(b)?;
+        Ok(())
+    }
+
+    /// Appends the decimal text of `v`: digits without leading zeros, and `-` first where `v` is
+    /// negative. On refusal the text stays.
+    pub fn push_number(&mut self, v: i128) -> Result<(), OutOfMemory>
+        ensures ok { OnOk result (self.new.items ≡ self.old.items ++ signed_decimal v) }
+        ensures err { OnErr result (self.new.items ≡ self.old.items) }
+    {
+        let digits = v.to_string(*self.bytes.allocator())?;
+        self.bytes.extend_from_slice(digits.as_bytes())?;
+        Ok(())
+    }
+}

@@ -1,0 +1,6 @@
+pub mod Unique
+pub mod Exists
+pub mod Settling
+pub mod OneFrame
+pub mod NoLoop
+pub mod OneRun

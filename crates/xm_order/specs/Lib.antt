@@ -1,0 +1,6 @@
+pub mod Dependence
+pub mod Loop
+pub mod OneFrame
+pub mod OneRun
+pub mod Settle
+pub mod Sides
