@@ -1,0 +1,5 @@
+pub mod Names
+pub mod Small
+pub mod Steps
+pub mod Shape
+pub mod Tape
