@@ -1,0 +1,58 @@
+-- The text of a run: a line for each cycle, the sums of the moves, and the number of cycles.
+use Rattle.std.specs.Prelude.{◌≡◌, ℕ, zero, suc, List, [], ◌∷◌, ◌++◌, length, slice_index_or, codes, decimal}
+use Rattle.std.specs.List.{flat_map}
+use Rattle.xm_model.specs.Component.{Content}
+use Rattle.xm_model.specs.Naming.{Naming}
+use Rattle.xm_model.specs.Net.{Network}
+use Rattle.xm_model.specs.Run.{IsRun, moves}
+use Rattle.xm_model.specs.Signals.{Signals}
+use Rattle.xm_model.specs.declared.parts.Choice.{Choice}
+use Rattle.xm_trace.specs.Moves.{cycle_moves}
+use Rattle.xm_trace.specs.Runs.{tape_of}
+use Rattle.xm_trace.specs.declared.trace.Move.{Move}
+
+abbrev pub name_at : List (List ℕ) → ℕ → List ℕ
+name_at names i = slice_index_or names i []
+
+abbrev pub line : List ℕ → List ℕ
+line text = text ++ 10 ∷ []
+
+-- a space, the channel, a colon and the colour
+abbrev pub move_text : Naming → Move → List ℕ
+move_text names m = codes " " ++ name_at names.channels m.channel ++ codes ":" ++ name_at names.colours m.colour
+
+-- the number of the cycle and its moves
+abbrev pub cycle_line : Naming → (ℕ → Signals) → ℕ → List ℕ
+cycle_line names φ t = line (decimal t ++ flat_map (move_text names) (cycle_moves (φ t) t (length names.channels)))
+
+abbrev pub cycle_lines : Naming → (ℕ → Signals) → ℕ → List ℕ
+cycle_lines names φ zero = []
+cycle_lines names φ (suc t) = cycle_lines names φ t ++ cycle_line names φ t
+
+-- how often the colour moved on the channel, where it did
+abbrev pub sum_line : Naming → ℕ → ℕ → ℕ → List ℕ
+sum_line names c d zero = []
+sum_line names c d (suc n) = line (codes "sum " ++ name_at names.channels c ++ codes "." ++ name_at names.colours d ++ codes " " ++ decimal (suc n))
+
+-- the sums of the first colours on channel c, where colour d moved (n c d) times on it
+abbrev pub channel_sums : Naming → (ℕ → ℕ → ℕ) → ℕ → ℕ → List ℕ
+channel_sums names n c zero = []
+channel_sums names n c (suc d) = channel_sums names n c d ++ sum_line names c d (n c d)
+
+-- the sums of all colours on the first channels
+abbrev pub sum_lines : Naming → (ℕ → ℕ → ℕ) → ℕ → List ℕ
+sum_lines names n zero = []
+sum_lines names n (suc c) = sum_lines names n c ++ channel_sums names n c (length names.colours)
+
+abbrev pub end_line : ℕ → List ℕ
+end_line cycles = line (codes "end " ++ decimal cycles)
+
+abbrev pub run_text : Naming → (ℕ → Signals) → ℕ → List ℕ
+run_text names φ cycles = cycle_lines names φ cycles ++ sum_lines names (λ c d. moves φ c d cycles) (length names.channels) ++ end_line cycles
+
+-- the text is that of the tape's run
+pub record IsTextOfRun (net : Network) (names : Naming) (rows : List (List Choice)) (text : List ℕ) : Type 0 where
+  pub states : ℕ → ℕ → Content
+  pub frames : ℕ → Signals
+  pub run : IsRun net (length rows) (tape_of net.prims rows) states frames
+  pub same : text ≡ run_text names frames (length rows)

@@ -1,0 +1,152 @@
+//! The text of a run.
+
+ghost use Rattle.std.specs.Prelude.{◌≡◌, ℕ, ◌+◌, ◌*◌, ◌<◌, ◌≤◌, ◌==◌, ◌++◌, drop, decimal, length, IfOk, OnOk};
+ghost use Rattle.std.specs.List.{flat_map, prefix_len};
+ghost use Rattle.xm_model.specs.Naming.{naming_of, texts_of};
+ghost use Rattle.xm_model.specs.Signals.{Signals};
+ghost use Rattle.xm_trace.specs.Moves.{run_moves};
+ghost use Rattle.xm_trace.specs.Sums.{sum_at};
+ghost use Rattle.xm_trace.specs.Text.{channel_sums, cycle_lines, end_line, line, move_text, name_at, run_text, sum_line, sum_lines};
+
+use crate::sums::sums_of;
+use crate::trace::{Move, Trace};
+use std::alloc::Global;
+use xm_model::{Names, OutOfMemory, Text};
+
+fn name_of(names: &[Text], i: usize) -> &[u8]
+    ensures { result.now ≡ name_at (texts_of names.now) i }
+{
+    match names.get(i) {
+        Some(name) => name.as_bytes(),
+        None => &[],
+    }
+}
+
+fn push_move(text: &mut Text, names: &Names, it: Move) -> Result<(), OutOfMemory>
+    ensures { OnOk result (text.new.items ≡ text.old.items ++ move_text (naming_of names.now) it) }
+{
+    text.push_bytes(b" ")?;
+    text.push_bytes(name_of(names.channels.as_slice(), it.channel as usize))?;
+    text.push_bytes(b":")?;
+    text.push_bytes(name_of(names.colours.as_slice(), usize::from(it.colour)))
+}
+
+fn push_moves(text: &mut Text, names: &Names, moves: &[Move]) -> Result<(), OutOfMemory>
+    ensures { OnOk result (text.new.items ≡ text.old.items ++ flat_map (move_text (naming_of names.now)) moves.now) }
+{
+    for it in moves {
+        push_move(text, names, *it)?;
+    }
+    Ok(())
+}
+
+/// The line of cycle `t`, which has these moves.
+fn push_cycle(text: &mut Text, names: &Names, t: u32, moves: &[Move]) -> Result<(), OutOfMemory>
+    ensures { OnOk result (text.new.items ≡ text.old.items ++ line (decimal t ++ flat_map (move_text (naming_of names.now)) moves.now)) }
+{
+    text.push_number(i128::from(t))?;
+    push_moves(text, names, moves)?;
+    text.push_bytes(b"\n")
+}
+
+/// Where the moves of cycle `t` end that stand from `from` on.
+fn cycle_end(moves: &[Move], from: usize, t: u32) -> usize
+    requires { from ≤ length moves.now }
+    ensures end { result ≡ from + prefix_len (λ m. m.cycle == t) (drop from moves.now) }
+    ensures within { result ≤ length moves.now }
+{
+    for k in from..moves.len() {
+        if moves[k].cycle != t {
+            return k;
+        }
+    }
+    moves.len()
+}
+
+/// A line for each cycle.
+fn push_cycles(text: &mut Text, names: &Names, trace: &Trace) -> Result<(), OutOfMemory>
+    ensures { (φ : ℕ → Signals) → trace.now.moves.items ≡ run_moves φ (length (naming_of names.now).channels) trace.now.cycles
+        → OnOk result (text.new.items ≡ text.old.items ++ cycle_lines (naming_of names.now) φ trace.now.cycles) }
+{
+    let moves = trace.moves.as_slice();
+    let mut from = 0;
+    for t in 0..trace.cycles {
+        let end = cycle_end(moves, from, t);
+        push_cycle(text, names, t, &moves[from..end])?;
+        from = end;
+    }
+    Ok(())
+}
+
+/// The line of the sum `n` of colour `d` on channel `c`, where it is not 0.
+fn push_sum(text: &mut Text, names: &Names, c: usize, d: usize, n: u64) -> Result<(), OutOfMemory>
+    ensures { OnOk result (text.new.items ≡ text.old.items ++ sum_line (naming_of names.now) c d n) }
+{
+    if n == 0 {
+        return Ok(());
+    }
+    text.push_bytes(b"sum ")?;
+    text.push_bytes(name_of(names.channels.as_slice(), c))?;
+    text.push_bytes(b".")?;
+    text.push_bytes(name_of(names.colours.as_slice(), d))?;
+    text.push_bytes(b" ")?;
+    text.push_number(i128::from(n))?;
+    text.push_bytes(b"\n")
+}
+
+fn push_channel(text: &mut Text, names: &Names, c: usize, sums: &[u64]) -> Result<(), OutOfMemory>
+    requires channel { c < length (naming_of names.now).channels }
+    requires few { length (naming_of names.now).channels ≤ 8192 }
+    requires colours { length (naming_of names.now).colours ≤ 64 }
+    requires whole { length sums.now ≡ length (naming_of names.now).channels * length (naming_of names.now).colours }
+    ensures { OnOk result (text.new.items ≡ text.old.items ++ channel_sums (naming_of names.now) (sum_at sums.now (length (naming_of names.now).colours)) c (length (naming_of names.now).colours)) }
+{
+    let colours = names.colours.len();
+    for d in 0..colours {
+        push_sum(text, names, c, d, sums[c * colours + d])?;
+    }
+    Ok(())
+}
+
+/// A line for each colour on each channel that it moved on.
+fn push_sums(text: &mut Text, names: &Names, sums: &[u64]) -> Result<(), OutOfMemory>
+    requires few { length (naming_of names.now).channels ≤ 8192 }
+    requires colours { length (naming_of names.now).colours ≤ 64 }
+    requires whole { length sums.now ≡ length (naming_of names.now).channels * length (naming_of names.now).colours }
+    ensures { OnOk result (text.new.items ≡ text.old.items ++ sum_lines (naming_of names.now) (sum_at sums.now (length (naming_of names.now).colours)) (length (naming_of names.now).channels)) }
+{
+    for c in 0..names.channels.len() {
+        push_channel(text, names, c, sums)?;
+    }
+    Ok(())
+}
+
+fn push_end(text: &mut Text, cycles: u32) -> Result<(), OutOfMemory>
+    ensures { OnOk result (text.new.items ≡ text.old.items ++ end_line cycles) }
+{
+    text.push_bytes(b"end ")?;
+    text.push_number(i128::from(cycles))?;
+    text.push_bytes(b"\n")
+}
+
+/// The text of a run whose moves are those of the trace: for each cycle a line with its number and its
+/// moves, for each channel and colour with moves a line with their sum, and the number of cycles. The
+/// names say how many channels and colours there are.
+pub fn trace_text(alloc: Global, names: &Names, trace: &Trace) -> Result<Text, OutOfMemory>
+    requires channels { length (naming_of names.now).channels ≤ 8192 }
+    requires colours { length (naming_of names.now).colours ≤ 64 }
+    ensures { (φ : ℕ → Signals) → trace.now.moves.items ≡ run_moves φ (length (naming_of names.now).channels) trace.now.cycles
+        → IfOk result (λ text. text.items ≡ run_text (naming_of names.now) φ trace.now.cycles) }
+{
+    let sums = sums_of(
+        alloc,
+        names.channels.len(),
+        names.colours.len(),
+        trace.moves.as_slice(),
+    )?;
+    let mut text = Text::new(alloc);
+    push_cycles(&mut text, names, trace)?;
+    push_sums(&mut text, names, sums.as_slice())?;
+    push_end(&mut text, trace.cycles)?;
+    Ok(text)
+}
