@@ -1,6 +1,6 @@
 -- One take or one write after another.
-use Rattle.std.proofs.Common.{◌≡◌, ℕ, ◌+◌, ◌-◌, ◌<◌, ◌≤◌, min, List, [], ◌∷◌, ◌++◌, take, drop, length, Option, Some, None, refl, sym, ap, ◌∙◌, append_assoc, arith}
-use Rattle.std.specs.Io.KnownBytes.{Appends, Consumes, Keeps, IsAtEnd}
+use Rattle.std.proofs.Common.{◌≡◌, ℕ, ◌+◌, ◌-◌, ◌<◌, ◌≤◌, min, List, [], ◌++◌, take, drop, length, Option, Some, None, refl, sym, ap, ◌∙◌, append_assoc, arith}
+use Rattle.std.specs.Io.KnownBytes.{Appends, Consumes, Keeps}
 use Rattle.std.proofs.lemmas.List.{append-nil, take_all, take_at, drop-drop, take-append-drop, length-take-le, length-drop, drop_all}
 use Rattle.std.proofs.Math.Seq.{take-add}
 
@@ -10,31 +10,11 @@ Consumes-then (Some a) None c x y p q = absurd p
 Consumes-then (Some a) (Some b) None x y p q = absurd q
 Consumes-then (Some a) (Some b) (Some c) x y p q = p ∙ ap (λ (r : List ℕ). x ++ r) q ∙ sym (append_assoc x y c)
 
-pub Consumes-none : (a : Option (List ℕ)) → Consumes a a []
-Consumes-none None = tt
-Consumes-none (Some a) = refl
-
-pub Consumes-keeps : (a b c : Option (List ℕ)) (x : List ℕ) → Consumes a b x → Keeps b c → Consumes a c x
-Consumes-keeps None b c x p q = tt
-Consumes-keeps (Some a) None c x p q = absurd p
-Consumes-keeps (Some a) (Some b) None x p q = absurd q
-Consumes-keeps (Some a) (Some b) (Some c) x p q = p ∙ ap (λ (r : List ℕ). x ++ r) (sym q)
-
 pub Appends-then : (a b c : Option (List ℕ)) (x y : List ℕ) → Appends a b x → Appends b c y → Appends a c (x ++ y)
 Appends-then None b c x y p q = tt
 Appends-then (Some a) None c x y p q = absurd p
 Appends-then (Some a) (Some b) None x y p q = absurd q
 Appends-then (Some a) (Some b) (Some c) x y p q = q ∙ ap (λ (r : List ℕ). r ++ y) p ∙ append_assoc a x y
-
-pub Appends-none : (a : Option (List ℕ)) → Appends a a []
-Appends-none None = tt
-Appends-none (Some a) = sym (append-nil a)
-
-pub Appends-keeps : (a b c : Option (List ℕ)) (x : List ℕ) → Appends a b x → Keeps b c → Appends a c x
-Appends-keeps None b c x p q = tt
-Appends-keeps (Some a) None c x p q = absurd p
-Appends-keeps (Some a) (Some b) None x p q = absurd q
-Appends-keeps (Some a) (Some b) (Some c) x p q = q ∙ p
 
 rest_is : (text : List ℕ) (done : ℕ) → take (length text - done) (drop done text) ≡ drop done text
 rest_is text done = take_all _ _ (omega (arith, length-drop done text))

@@ -1,5 +1,5 @@
 -- What each call does to a source and a sink in memory.
-use Rattle.std.specs.Prelude.{◌≡◌, ℕ, ◌==◌, ◌-◌, ◌++◌, nat_le, Bool, ◌||◌, ◌&&◌, not, min, List, length, take, drop}
+use Rattle.std.specs.Prelude.{ℕ, ◌==◌, ◌-◌, ◌++◌, nat_le, Bool, ◌||◌, ◌&&◌, not, min, List, length, take, drop}
 use Rattle.std.specs.List.{list_any}
 use Rattle.xm_io.specs.Causes.{raised}
 

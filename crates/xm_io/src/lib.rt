@@ -51,3 +51,6 @@ pub trait Sink {
         ensures bytes { WriteAppends (held self.old) (held self.new) result piece.now }
         ensures cause { HasCause (faults self.old) (faults self.new) result };
 }
+
+#[cfg(test)]
+mod tests;

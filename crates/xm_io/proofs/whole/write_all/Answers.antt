@@ -1,4 +1,4 @@
-use Rattle.std.proofs.Common.{arith, rules}
+use Rattle.std.proofs.Common.{arith}
 use Rattle.std.proofs.lemmas.Grind.{common_steps}
 use Rattle.xm_io.proofs.Streams.{write_goes_on}
 use Rattle.xm_io.proofs.whole.write_all.Goals as goal
