@@ -3,3 +3,4 @@ pub mod Small
 pub mod Steps
 pub mod Shape
 pub mod Tape
+pub mod Seen
