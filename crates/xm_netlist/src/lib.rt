@@ -3,8 +3,10 @@
 #![tactic(auto)]
 
 mod document;
+mod draft;
 mod fault;
 mod reading;
+mod shape;
 
 pub use document::Document;
 pub use fault::DocFault;
