@@ -1,6 +1,7 @@
 pub mod Draft
 pub mod Gives
 pub mod Names
+pub mod Numbers
 pub mod Seen
 pub mod Shape
 pub mod Small

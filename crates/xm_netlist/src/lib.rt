@@ -5,6 +5,7 @@
 mod document;
 mod draft;
 mod fault;
+mod naming;
 mod reading;
 mod shape;
 
