@@ -1,5 +1,5 @@
 -- Names that are met one after another.
-use Rattle.std.proofs.Common.{true≢false, inl, inr, ◌≡◌, ℕ, suc, ◌+◌, ◌<◌, Bool, true, false, cond, List, [], ◌∷◌, ◌++◌, length, get_or, map, drop, String, Global, string_bytes, refl, sym, ap, ◌∙◌, add-one, drop-cons, Option, Some, None, append_assoc, eqb}
+use Rattle.std.proofs.Common.{true≢false, inl, inr, ◌≡◌, ℕ, suc, ◌+◌, ◌<◌, Bool, true, false, cond, List, [], ◌∷◌, ◌++◌, length, get_or, map, drop, String, Global, string_bytes, refl, sym, ap, ◌∙◌, add-one, drop-cons, Option, Some, None, append_assoc, arith}
 use Rattle.std.specs.Prelude.{◌||◌, ◌&&◌, not, option_map}
 use Rattle.std.proofs.Math.Bool.{and-false, or-true}
 use Rattle.std.proofs.lemmas.Bool.{and_parts, false_from_ne_true, not-true, or_cases, or_parts}
@@ -36,6 +36,30 @@ one_more seen new uses i x k total lt is same step so_far =
     let one : first_uses (names_seen seen) (names_seen (drop i uses)) ≡ first_uses (names_seen new) (names_seen (drop (i + 1) uses)) =
     rw (step, cut, names_seen-insert_key, same) refl in
     sym one ∙ so_far
+
+-- ---- the number of a name
+
+one_further : (i : ℕ) (r : Option ℕ) → option_map (λ k. i + k) (option_map suc r) ≡ option_map (λ k. (i + 1) + k) r
+one_further i None = refl
+one_further i (Some k) = ap (λ (n : ℕ). Some n) (omega arith)
+
+number_from : (ks : List (String Global)) (n : Name) (i : ℕ) → option_map (λ k. i + k) (number_of (names_seen ks) n) ≡ position_from (λ k. bytes_eq n (string_bytes k)) i ks
+number_from [] n i = refl
+number_from (m ∷ ks) n i =
+    elim (bytes_eq n (string_bytes m)) as (λ b. option_map (λ k. i + k) (cond b (Some 0) (option_map suc (number_of (names_seen ks) n))) ≡ cond b (Some i) (position_from (λ k. bytes_eq n (string_bytes k)) (i + 1) ks)) [
+      | true ↦ ap (λ (k : ℕ). Some k) (omega arith)
+      | false ↦ one_further i (number_of (names_seen ks) n) ∙ number_from ks n (i + 1)
+    ]
+
+from_zero : (r : Option ℕ) → option_map (λ k. 0 + k) r ≡ r
+from_zero None = refl
+from_zero (Some k) = ap (λ (n : ℕ). Some n) (omega arith)
+
+pub number_of-position : (ks : List (String Global)) (n : Name) → number_of (names_seen ks) n ≡ position (λ k. bytes_eq n (string_bytes k)) ks
+number_of-position ks n =
+    sym (from_zero (number_of (names_seen ks) n)) ∙ number_from ks n 0 ∙ sym (position_from-zero (λ k. bytes_eq n (string_bytes k)) ks)
+
+-- ---- names that differ
 
 bytes_eq-swap : (a b : Name) → bytes_eq a b ≡ true → bytes_eq b a ≡ true
 bytes_eq-swap a b e = (bytes_eq-Decides b a).1 (sym ((bytes_eq-Decides a b).0 e))

@@ -5,10 +5,7 @@ use Rattle.xm_netlist.specs.declared.fault.DocFault.{DocFault}
 use Rattle.xm_netlist.specs.declared.fault.DocFault.TheVariants as faults
 use Rattle.xm_netlist.specs.Gives.{Fails}
 use Rattle.xm_netlist.specs.Steps.{◌>>=◌, each}
-
--- what was found before, and what is still to be found
-abbrev pub with_front : {B : Type 0} → List B → Option (List B) → Option (List B)
-with_front front found = found >>= λ ys. Some (front ++ ys)
+use Rattle.xm_netlist.specs.Walk.{with_front}
 
 regroup : {B : Type 0} (front : List B) (y : B) (found : Option (List B)) → with_front front (found >>= λ ys. Some (y ∷ ys)) ≡ with_front (front ++ y ∷ []) found
 regroup {B} front y (Some ys) = ap (λ (l : List B). Some l) (sym (append_assoc front (y ∷ []) ys))

@@ -4,6 +4,8 @@ pub mod Names
 pub mod Numbers
 pub mod Seen
 pub mod Shape
+pub mod Sizes
 pub mod Small
 pub mod Steps
 pub mod Tape
+pub mod Walk

@@ -6,8 +6,11 @@ mod document;
 mod draft;
 mod fault;
 mod naming;
+mod numbering;
 mod reading;
 mod shape;
+mod sizes;
+mod tape;
 
 pub use document::Document;
 pub use fault::DocFault;

@@ -3,7 +3,7 @@ use Rattle.xm_netlist.specs.Shape.{part_in}
 use Rattle.serde_json.specs.View.{view}
 use Rattle.xm_netlist.specs.Draft.{parts_seen}
 use Rattle.xm_netlist.specs.Steps.{each}
-use Rattle.xm_netlist.proofs.Walk.{with_front}
+use Rattle.xm_netlist.specs.Walk.{with_front}
 use Rattle.xm_netlist.proofs.shape.parts.Given as goal
 
 abbrev pub invariant-loop-value : goal.invariant-loop-value

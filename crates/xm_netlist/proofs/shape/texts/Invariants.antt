@@ -3,7 +3,7 @@ use Rattle.serde_json.specs.Find.{as_str}
 use Rattle.serde_json.specs.View.{view}
 use Rattle.xm_netlist.specs.Draft.{names_seen}
 use Rattle.xm_netlist.specs.Steps.{each}
-use Rattle.xm_netlist.proofs.Walk.{with_front}
+use Rattle.xm_netlist.specs.Walk.{with_front}
 use Rattle.xm_netlist.proofs.shape.texts.Given as goal
 
 abbrev pub invariant-loop-value : goal.invariant-loop-value
