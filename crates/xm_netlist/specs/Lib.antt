@@ -1,5 +1,6 @@
 pub mod Draft
 pub mod Gives
+pub mod Made
 pub mod Names
 pub mod Numbers
 pub mod Seen
