@@ -1,11 +1,17 @@
-//! Documents of nets, read exactly.
+//! Small documents, read exactly: from the bytes of a JSON text to a net, the names of what it numbers,
+//! and the choices of its tape.
 #![tactic(auto)]
 
-ghost use Rattle.std.specs.Prelude.{ℕ, List};
-ghost use Rattle.xm_netlist.specs.Small.{IsSmall, Small};
+mod document;
+mod draft;
+mod fault;
+mod naming;
+mod numbering;
+mod reading;
+mod shape;
+mod sizes;
+mod tape;
 
-pub fn probe(x: u8) -> u8
-    ensures { (b : List ℕ) (d : Small) → IsSmall b d → IsSmall b d }
-{
-    x
-}
+pub use document::Document;
+pub use fault::DocFault;
+pub use reading::read_document;

@@ -1,0 +1,4 @@
+pub mod Items
+pub mod Json
+pub mod Meeting
+pub mod Walk
