@@ -1,4 +1,8 @@
+pub mod Finding
+pub mod Fitting
 pub mod Items
 pub mod Json
+pub mod Making
 pub mod Meeting
+pub mod Refusing
 pub mod Walk
