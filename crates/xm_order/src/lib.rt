@@ -1,8 +1,10 @@
-//! Signals, their dependence, and the laws along an order of all signals.
+//! Signals, their dependence, and an order of all signals or a loop, with the laws along an order.
 #![tactic(auto)]
 
 mod laws;
+mod needs;
 mod signal;
+mod walk;
 
 pub use laws::{no_loop, one_frame, one_run, settles_all};
 pub use signal::Signal;
