@@ -1,8 +1,12 @@
 pub mod Unique
 pub mod Exists
+pub mod Marking
 pub mod Needing
+pub mod Places
+pub mod Ringing
 pub mod Settling
 pub mod OneFrame
 pub mod NoLoop
 pub mod OneRun
+pub mod Walking
 pub mod Within

@@ -4,12 +4,16 @@ use Rattle.xm_model.specs.Net.{Network}
 use Rattle.xm_order.specs.Dependence.{Depends}
 use Rattle.xm_order.specs.declared.signal.Signal.{Signal}
 
--- distinct signals, each depending on the next, and the last on this one
-pub record LeadsTo (net : Network) (path : List Signal) (end : Signal) : Type 0 where
+-- distinct signals, each depending on the next
+pub record IsPath (net : Network) (path : List Signal) : Type 0 where
   pub distinct : (j k : ℕ) (σ : Signal) → slice_get path j ≡ Some σ → slice_get path k ≡ Some σ → j ≡ k
   pub next : (k : ℕ) (σ τ : Signal) → slice_get path k ≡ Some σ → slice_get path (suc k) ≡ Some τ → Depends net σ τ
-  pub last : (σ : Signal) → slice_get path (length path - 1) ≡ Some σ → Depends net σ end
 
--- the same where the last depends on the first
+-- the last of these signals depends on this one
+abbrev pub LastNeeds : Network → List Signal → Signal → Type 0
+LastNeeds net path τ = (σ : Signal) → slice_get path (length path - 1) ≡ Some σ → Depends net σ τ
+
+-- a path whose last signal depends on its first
 pub record IsRing (net : Network) (ring : List Signal) : Type 0 where
-  pub leads : (σ : Signal) → slice_get ring 0 ≡ Some σ → LeadsTo net ring σ
+  pub is_path : IsPath net ring
+  pub closes : (τ : Signal) → slice_get ring 0 ≡ Some τ → LastNeeds net ring τ

@@ -17,14 +17,6 @@ pub record HoldsMarked (marks : List Mark) (mark : Mark) (signals : List Signal)
   pub listed : (σ : Signal) → IsMarked marks σ mark → (k : ℕ) × (slice_get signals k ≡ Some σ)
   pub once : (j k : ℕ) (σ : Signal) → slice_get signals j ≡ Some σ → slice_get signals k ≡ Some σ → j ≡ k
 
--- those that are done stand after all on which they depend, and each of the path depends on the next
-pub record IsWalk (net : Network) (done path : List Signal) (marks : List Mark) : Type 0 where
-  pub whole : length marks ≡ 2 * net.channels
-  pub is_done : HoldsMarked marks Done done
-  pub on_path : HoldsMarked marks OnPath path
-  pub after : (k : ℕ) (σ τ : Signal) → slice_get done k ≡ Some σ → Depends net σ τ → (j : ℕ) × ((j < k) × (slice_get done j ≡ Some τ))
-  pub next : (k : ℕ) (σ τ : Signal) → slice_get path k ≡ Some σ → slice_get path (suc k) ≡ Some τ → Depends net σ τ
-
 -- the steps that are left for a signal
 abbrev pub steps_left : Mark → ℕ
 steps_left Unseen = 2
@@ -34,6 +26,16 @@ steps_left Done = 0
 -- the steps that are left for all
 abbrev pub all_left : List Mark → ℕ
 all_left marks = sum_by steps_left marks
+
+-- those that are done stand after all on which they depend, and each of the path depends on the next; the
+-- path grows by one with each step that meets a signal
+pub record IsWalk (net : Network) (done path : List Signal) (marks : List Mark) : Type 0 where
+  pub whole : length marks ≡ 2 * net.channels
+  pub is_done : HoldsMarked marks Done done
+  pub on_path : HoldsMarked marks OnPath path
+  pub after : (k : ℕ) (σ τ : Signal) → slice_get done k ≡ Some σ → Depends net σ τ → (j : ℕ) × ((j < k) × (slice_get done j ≡ Some τ))
+  pub next : (k : ℕ) (σ τ : Signal) → slice_get path k ≡ Some σ → slice_get path (suc k) ≡ Some τ → Depends net σ τ
+  pub short : length path + all_left marks ≤ 4 * net.channels
 
 -- no signal has more steps left than before
 pub record Advances (before after : List Mark) : Type 0 where
