@@ -1,5 +1,6 @@
 -- A ring is cut out of a path, and is a loop once it begins at its least signal.
 use Rattle.std.proofs.Common.{◌≡◌, ℕ, zero, suc, ◌+◌, ◌-◌, ◌<◌, ◌≤◌, ◌⊎◌, List, [], ◌∷◌, ◌++◌, Some, length, take, drop, slice_get, refl, sym, ◌∙◌, ap, subst, inl, inr, arith, length-append, length-drop}
+use Rattle.std.proofs.lemmas.List.{length-take-le, take-append-drop}
 use Rattle.std.proofs.lemmas.Option.{slice_get_within}
 use Rattle.xm_model.specs.Net.{Network}
 use Rattle.xm_order.proofs.Places.{append_cases, get-append_left, get-append_right}
@@ -104,3 +105,28 @@ module _ (net : Network) (xs ys : List Signal) (ring : IsRing net (xs ++ ys)) (s
       | inr v ↦ absurd (let e = v.1 in omega arith)
     ];
   }
+
+-- the head of the rest of a list
+drop-head : (xs : List Signal) (i : ℕ) (σ : Signal) → i < length xs → slice_get xs i ≡ Some σ → slice_get (drop i xs) 0 ≡ Some σ
+drop-head xs i σ inside at =
+    let len = length-take-le i xs (omega arith) in
+    sym (get-append_right (take i xs) (drop i xs) i 0 (omega arith)) ∙ ap (λ (ys : List Signal). slice_get ys i) (take-append-drop i xs) ∙ at
+
+head-drop : (xs : List Signal) (i : ℕ) (σ : Signal) → i < length xs → slice_get (drop i xs) 0 ≡ Some σ → slice_get xs i ≡ Some σ
+head-drop xs i σ inside at =
+    let len = length-take-le i xs (omega arith) in
+    ap (λ (ys : List Signal). slice_get ys i) (sym (take-append-drop i xs)) ∙ get-append_right (take i xs) (drop i xs) i 0 (omega arith) ∙ at
+
+pub turned_at : (net : Network) (ring : List Signal) (i : ℕ) → IsRing net ring → i < length ring →
+    ((k : ℕ) (σ τ : Signal) → slice_get ring i ≡ Some σ → slice_get ring k ≡ Some τ → rank σ ≤ rank τ) → IsLoop net (drop i ring ++ take i ring)
+turned_at net ring i is_ring inside least =
+    let whole = take-append-drop i ring in
+    let left = length-drop i ring in
+    turned_loop net (take i ring) (drop i ring) (subst (λ (xs : List Signal). IsRing net xs) (sym whole) is_ring) (omega arith)
+    (λ k σ τ at_first at_k. least k σ τ (head-drop ring i σ inside at_first) (ap (λ (xs : List Signal). slice_get xs k) (sym whole) ∙ at_k))
+
+pub ring_at : (net : Network) (path : List Signal) (i : ℕ) (τ : Signal) → IsPath net path → LastNeeds net path τ → slice_get path i ≡ Some τ → IsRing net (drop i path)
+ring_at net path i τ is_path last at =
+    let whole = take-append-drop i path in
+    ring_from net (take i path) (drop i path) τ (subst (λ (xs : List Signal). IsPath net xs) (sym whole) is_path) (subst (λ (xs : List Signal). LastNeeds net xs τ) (sym whole) last)
+    (drop-head path i τ (slice_get_within path i τ at) at)

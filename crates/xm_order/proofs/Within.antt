@@ -1,11 +1,12 @@
 -- The signals of a dependence are signals of the net's channels.
-use Rattle.std.specs.Prelude.{ℕ, ◌<◌}
+use Rattle.std.specs.Prelude.{◌≡◌, ℕ, ◌<◌, List, Option, Some, slice_get}
 use Rattle.xm_model.specs.Component.{Component}
 use Rattle.xm_model.specs.Counted.{IsCounted, driven_below, taken_below}
 use Rattle.xm_model.specs.Net.{HasPrim, Network}
 use Rattle.xm_model.specs.Ports.{Drives, Takes, fork_drives_a, fork_drives_b, fork_takes, function_drives, function_takes, join_drives, join_takes_a, join_takes_b, merge_drives, merge_takes_a, merge_takes_b, switch_drives_a, switch_drives_b, switch_takes}
 use Rattle.xm_order.specs.Dependence
 use Rattle.xm_order.specs.Dependence.{Depends, Needs, channel_of}
+use Rattle.xm_order.specs.Listed.{ListsAll}
 use Rattle.xm_order.specs.declared.signal.Signal.{Signal}
 use Rattle.xm_order.specs.declared.signal.Signal.TheVariants as signal
 
@@ -91,3 +92,7 @@ module _ (net : Network) (wired : IsCounted net) where
 
   pub needed_below : (σ τ : Signal) → Depends net σ τ → channel_of τ < net.channels
   needed_below σ τ d = read_below d.place d.prim τ d.has (read d.prim σ τ d.needs)
+
+  -- all the signals on which a signal depends are the net's
+  pub listed_below : (σ : Signal) (places : List (Option Signal)) → ListsAll (Depends net σ) places → (k : ℕ) (τ : Signal) → slice_get places k ≡ Some (Some τ) → channel_of τ < net.channels
+  listed_below σ places lists k τ at = needed_below σ τ (lists.each k τ at)

@@ -6,6 +6,7 @@ use Rattle.xm_order.specs.Loop.{rank}
 use Rattle.xm_order.specs.declared.signal.Signal.{Signal}
 use Rattle.xm_order.specs.declared.walk.Mark.{Mark}
 use Rattle.xm_order.specs.declared.walk.Mark.TheVariants.{Unseen, OnPath, Done}
+use Rattle.xm_order.specs.declared.walk.Walk.{Walk}
 
 -- marks stand in the order offer 0, ready 0, offer 1, and so on
 abbrev pub IsMarked : List Mark → Signal → Mark → Type 0
@@ -29,13 +30,16 @@ all_left marks = sum_by steps_left marks
 
 -- those that are done stand after all on which they depend, and each of the path depends on the next; the
 -- path grows by one with each step that meets a signal
-pub record IsWalk (net : Network) (done path : List Signal) (marks : List Mark) : Type 0 where
+pub record IsWalkOver (net : Network) (done path : List Signal) (marks : List Mark) : Type 0 where
   pub whole : length marks ≡ 2 * net.channels
   pub is_done : HoldsMarked marks Done done
   pub on_path : HoldsMarked marks OnPath path
   pub after : (k : ℕ) (σ τ : Signal) → slice_get done k ≡ Some σ → Depends net σ τ → (j : ℕ) × ((j < k) × (slice_get done j ≡ Some τ))
   pub next : (k : ℕ) (σ τ : Signal) → slice_get path k ≡ Some σ → slice_get path (suc k) ≡ Some τ → Depends net σ τ
   pub short : length path + all_left marks ≤ 4 * net.channels
+
+abbrev pub IsWalk : Network → Walk → Type 0
+IsWalk net walk = IsWalkOver net walk.done.items walk.path.items walk.marks.items
 
 -- no signal has more steps left than before
 pub record Advances (before after : List Mark) : Type 0 where
