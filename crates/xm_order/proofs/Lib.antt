@@ -1,5 +1,6 @@
 pub mod Unique
 pub mod Exists
+pub mod LongRow
 pub mod Marking
 pub mod Needing
 pub mod Places

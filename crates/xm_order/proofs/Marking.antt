@@ -1,16 +1,16 @@
 -- The lists of the signals that have one mark, as marks are written.
-use Rattle.std.proofs.Common.{◌≡◌, ◌≢◌, ℕ, ◌+◌, ◌*◌, ◌<◌, ◌≤◌, ◌⊎◌, List, [], ◌∷◌, ◌++◌, Some, length, set, slice_get, get_or, refl, sym, ◌∙◌, ap, subst, inl, inr, arith}
+use Rattle.std.proofs.Common.{◌≡◌, ◌≢◌, ℕ, ◌+◌, ◌<◌, ◌≤◌, ◌⊎◌, List, [], ◌∷◌, ◌++◌, Some, length, set, slice_get, get_or, sym, ◌∙◌, ap, subst, inl, inr, arith}
 use Rattle.std.proofs.lemmas.Bool.{cases_eq}
 use Rattle.std.proofs.lemmas.List.{get_or-set_other}
 use Rattle.std.proofs.lemmas.List.Sums.{sum_by-set}
-use Rattle.std.proofs.lemmas.Option.{get_or_from_slice_get, slice_get-get_or, slice_get_within}
+use Rattle.std.proofs.lemmas.Option.{get_or_from_slice_get, slice_get_within}
 use Rattle.xm_order.proofs.Places.{get-append_left, get-push_last, get-set_other, get-set_same, push_cases}
 use Rattle.xm_order.specs.Loop.{rank}
 use Rattle.xm_order.specs.Walk.{Advances, HoldsMarked, IsMarked, all_left, steps_left}
 use Rattle.xm_order.specs.declared.signal.Signal.{Signal}
 use Rattle.xm_order.specs.declared.signal.Signal.TheVariants as signal
 use Rattle.xm_order.specs.declared.walk.Mark.{Mark}
-use Rattle.xm_order.specs.declared.walk.Mark.TheVariants.{Unseen, OnPath, Done}
+use Rattle.xm_order.specs.declared.walk.Mark.TheVariants.{Done}
 
 pub rank_apart : (σ τ : Signal) → rank σ ≡ rank τ → σ ≡ τ
 rank_apart (signal.Offer c) (signal.Offer d) e = ap signal.Offer (let same : c ≡ d = omega arith in same)
@@ -120,4 +120,3 @@ module _ (marks : List Mark) (σ : Signal) (old new : Mark) (was : IsMarked mark
             rw (same, now, then) (omega arith))
         | inr apart ↦ rw (get_or-set_other marks (rank σ) i new Done apart) (omega arith)
       ]
-

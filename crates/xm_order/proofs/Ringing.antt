@@ -1,5 +1,5 @@
 -- A ring is cut out of a path, and is a loop once it begins at its least signal.
-use Rattle.std.proofs.Common.{◌≡◌, ℕ, zero, suc, ◌+◌, ◌-◌, ◌<◌, ◌≤◌, ◌⊎◌, List, [], ◌∷◌, ◌++◌, Some, length, take, drop, slice_get, refl, sym, ◌∙◌, ap, subst, inl, inr, arith, length-append, length-drop}
+use Rattle.std.proofs.Common.{◌≡◌, ℕ, suc, ◌+◌, ◌-◌, ◌<◌, ◌≤◌, List, ◌++◌, Some, length, take, drop, slice_get, refl, sym, ◌∙◌, ap, subst, inl, inr, arith, length-append, length-drop}
 use Rattle.std.proofs.lemmas.List.{length-take-le, take-append-drop}
 use Rattle.std.proofs.lemmas.Option.{slice_get_within}
 use Rattle.xm_model.specs.Net.{Network}
@@ -56,12 +56,12 @@ module _ (net : Network) (xs ys : List Signal) (ring : IsRing net (xs ++ ys)) (s
     | inl h ↦ (
         let inside = slice_get_within ys k σ h in
         elim (append_cases ys xs (suc k) τ at_next) [
-        | inl i ↦ ring.is_path.next (length xs + k) σ τ (at_right k σ h) (get-append_right xs ys (suc (length xs + k)) (suc k) (omega arith) ∙ i)
-        | inr w ↦ (
-            let e = w.1 in
-            let start : w.0 ≡ 0 = omega arith in
-            let end : length (xs ++ ys) - 1 ≡ length xs + k = simp length-append (omega arith) in
-            ring.closes τ (subst (λ (j : ℕ). slice_get (xs ++ ys) j ≡ Some τ) start (at_left w.0 τ w.2)) σ (ap (slice_get (xs ++ ys)) end ∙ at_right k σ h))
+          | inl i ↦ ring.is_path.next (length xs + k) σ τ (at_right k σ h) (get-append_right xs ys (suc (length xs + k)) (suc k) (omega arith) ∙ i)
+          | inr w ↦ (
+              let e = w.1 in
+              let start : w.0 ≡ 0 = omega arith in
+              let end : length (xs ++ ys) - 1 ≡ length xs + k = simp length-append (omega arith) in
+              ring.closes τ (subst (λ (j : ℕ). slice_get (xs ++ ys) j ≡ Some τ) start (at_left w.0 τ w.2)) σ (ap (slice_get (xs ++ ys)) end ∙ at_right k σ h))
         ])
     | inr v ↦ elim (append_cases ys xs (suc k) τ at_next) [
       | inl i ↦ absurd (let inside = slice_get_within ys (suc k) τ i in let e = v.1 in omega arith)

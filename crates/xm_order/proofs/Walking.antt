@@ -217,7 +217,7 @@ pub entered_alone : (net : Network) (done path : List Signal) (marks : List Mark
     (done' path' : List Signal) (marks' : List Mark) → done' ≡ done → path' ≡ path ++ σ ∷ [] → marks' ≡ set marks (rank σ) OnPath → Stepped net marks done' path' marks' × IsMarked marks' σ OnPath
 entered_alone net done path marks walk none σ was done' path' marks' done_is path_is marks_is = (
   enter_step net done path marks walk done' path' marks' σ was
-  (λ τ at. absurd (let there : slice_get [] (length path - 1) ≡ Some τ = subst (λ (xs : List Signal). slice_get xs (length path - 1) ≡ Some τ) none at in cc)) done_is path_is marks_is,
+      (λ τ at. absurd (let there : slice_get [] (length path - 1) ≡ Some τ = subst (λ (xs : List Signal). slice_get xs (length path - 1) ≡ Some τ) none at in cc)) done_is path_is marks_is,
   rw marks_is (marked_new marks σ Unseen OnPath was),
 )
 

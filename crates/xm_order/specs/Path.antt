@@ -1,5 +1,5 @@
 -- Paths and rings of the dependence.
-use Rattle.std.specs.Prelude.{◌≡◌, ℕ, suc, ◌-◌, ◌<◌, List, length, Some, slice_get}
+use Rattle.std.specs.Prelude.{◌≡◌, ℕ, suc, ◌-◌, List, length, Some, slice_get}
 use Rattle.xm_model.specs.Net.{Network}
 use Rattle.xm_order.specs.Dependence.{Depends}
 use Rattle.xm_order.specs.declared.signal.Signal.{Signal}

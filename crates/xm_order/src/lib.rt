@@ -14,3 +14,6 @@ pub use laws::{no_loop, one_frame, one_run, settles_all};
 pub use ordered::Order;
 pub use signal::Signal;
 pub use walk::order;
+
+#[cfg(test)]
+mod tests;

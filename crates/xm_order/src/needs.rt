@@ -22,7 +22,11 @@ fn offer_needs(prim: &Prim, c: u32) -> [Option<Signal>; 3]
         }
         Prim::Fork { input, a, b, .. } => {
             let other = if c == *a { *b } else { *a };
-            [Some(Signal::Offer(*input)), Some(Signal::Ready(other)), None]
+            [
+                Some(Signal::Offer(*input)),
+                Some(Signal::Ready(other)),
+                None,
+            ]
         }
         Prim::Join { a, b, .. } | Prim::Merge { a, b, .. } => {
             [Some(Signal::Offer(*a)), Some(Signal::Offer(*b)), None]

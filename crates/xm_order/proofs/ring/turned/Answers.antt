@@ -1,4 +1,4 @@
-use Rattle.std.proofs.Common.{◌≡◌, [], ◌++◌, ◌-◌, take, drop, length, ◌∙◌, ap, sym, subst}
+use Rattle.std.proofs.Common.{◌≡◌, ◌++◌, ◌-◌, take, drop, length, ◌∙◌, ap, sym, subst}
 use Rattle.std.proofs.lemmas.List.{take_rest}
 use Rattle.std.specs.Prelude.{List}
 use Rattle.xm_order.proofs.Ringing.{turned_at}

@@ -4,10 +4,8 @@ use Rattle.xm_model.specs.Listing.{Listing}
 use Rattle.xm_order.proofs.Walking.{Stepped, enter_step, finish_step, in_marks, is_path, last_below, last_needs, needs_in_marks, unseen_from}
 use Rattle.xm_order.specs.Loop.{IsLoop}
 use Rattle.xm_order.specs.Path.{IsPath, LastNeeds}
-use Rattle.xm_order.specs.Walk.{IsMarked}
 use Rattle.xm_order.specs.declared.signal.Signal.{Signal}
-use Rattle.xm_order.specs.declared.walk.Mark.{Mark}
-use Rattle.xm_order.specs.declared.walk.Mark.TheVariants.{OnPath, Unseen}
+use Rattle.xm_order.specs.declared.walk.Mark.TheVariants.{Unseen}
 use Rattle.xm_order.proofs.walk.Walk.step.Goals as goal
 use Rattle.xm_order.proofs.walk.Walk.step.Goals.{in-None+in_ok-finish-in-None, in-Some+in_default+in_ok-enter-in_default}
 

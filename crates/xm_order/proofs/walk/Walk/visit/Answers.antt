@@ -1,5 +1,5 @@
 use Rattle.std.proofs.Common.{refl}
-use Rattle.xm_order.proofs.Walking.{advances_none, advances_on, empty_from, entered_alone, entered_done, met_done}
+use Rattle.xm_order.proofs.Walking.{advances_none, advances_on, empty_from, entered_alone, entered_done}
 use Rattle.xm_order.proofs.walk.Walk.visit.Goals as goal
 
 pub loop-alloc-init : goal.loop-alloc-init

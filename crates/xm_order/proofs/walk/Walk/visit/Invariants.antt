@@ -1,4 +1,3 @@
-use Rattle.std.proofs.Common.{◌≡◌, Some, slice_get}
 use Rattle.xm_order.specs.Walk.{Advances, IsWalk, all_left}
 use Rattle.xm_order.proofs.walk.Walk.visit.Given as goal
 
