@@ -1,6 +1,13 @@
 pub mod Unique
 pub mod Exists
+pub mod LongRow
+pub mod Marking
+pub mod Needing
+pub mod Places
+pub mod Ringing
 pub mod Settling
 pub mod OneFrame
 pub mod NoLoop
 pub mod OneRun
+pub mod Walking
+pub mod Within

@@ -1,7 +1,11 @@
 pub mod Dependence
+pub mod Induction
+pub mod Listed
 pub mod Loop
 pub mod OneFrame
 pub mod OneRun
+pub mod Path
 pub mod SameNext
 pub mod Settle
 pub mod Sides
+pub mod Walk
