@@ -16,13 +16,13 @@ IsRowDivisor d r = IsCommonDivisor d r × ((other : ℕ) → IsCommonDivisor oth
 abbrev pub IsReduced : SparseRow → Type 0
 IsReduced r = IsRowDivisor 1 r ⊎ ((r.entries ≡ []) × (r.constant ≡ pos 0))
 
+-- the entry with its value divided by the factor
+abbrev pub over : ℤ → Entry → Entry
+over factor e = record e { value = int_div e.value factor }
+
 -- the row with each number divided by the factor
-abbrev pub quotient : ℤ → SparseRow → SparseRow
-quotient factor r =
-    record {
-      entries = map (λ e. record e { value = int_div e.value factor }) r.entries;
-      constant = int_div r.constant factor;
-    }
+abbrev pub divided : ℤ → SparseRow → SparseRow
+divided factor r = record { entries = map (over factor) r.entries; constant = int_div r.constant factor }
 
 -- new is old over a factor, leads with a positive value, and is in lowest terms
 pub record IsPrimitiveOf (old new : SparseRow) : Type 0 where

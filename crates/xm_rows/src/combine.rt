@@ -6,7 +6,7 @@ ghost use Rattle.xm_rows.specs.Row.{Fits128, IsRising, coefficient};
 ghost use Rattle.xm_rows.specs.Combination.{AreFactors, DifferenceFits, IsCancelled, Overflows};
 ghost use Rattle.xm_rows.specs.Merging.{IsMerge, StartsAt, behind};
 
-use crate::arithmetic::difference;
+use crate::arithmetic::{difference, quotient};
 use crate::divisor::gcd;
 use crate::row::{Entry, Row};
 use smallvec::SmallVec;
@@ -41,7 +41,9 @@ pub fn cancel(alloc: Global, r: &Row, s: &Row, column: u32) -> Result<Row, Cance
     ensures overflow { IsErrOf result CancelFault.Overflow → Overflows r.now s.now column }
 {
     let (u, v) = factors(r.value_at(column), s.value_at(column));
-    let constant = difference(u, r.constant(), v, s.constant()).ok_or(CancelFault::Overflow)?;
+    let Some(constant) = difference(u, r.constant(), v, s.constant()) else {
+        return Err(CancelFault::Overflow);
+    };
     let entries = merge(alloc, u, r.entries(), v, s.entries())?;
     let mut row = Row::from_entries(entries, constant);
     let divisor = row.divisor();
@@ -59,7 +61,8 @@ fn factors(a: i128, b: i128) -> (i128, i128)
     ensures { AreFactors a b result.0 result.1 }
 {
     let divisor = gcd(a.unsigned_abs(), b.unsigned_abs()) as i128;
-    let (first, second) = (b / divisor, a / divisor);
+    let first = quotient(b, divisor);
+    let second = quotient(a, divisor);
     if b < 0 {
         (-first, -second)
     } else {
@@ -87,7 +90,9 @@ fn merge(
     while let Some(column) = first_column(left, right) {
         let (a, left_rest) = take_column(left, column);
         let (b, right_rest) = take_column(right, column);
-        let value = difference(u, a, v, b).ok_or(CancelFault::Overflow)?;
+        let Some(value) = difference(u, a, v, b) else {
+            return Err(CancelFault::Overflow);
+        };
         if value != 0 {
             out.push(Entry { column, value })?;
         }

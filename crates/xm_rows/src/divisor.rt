@@ -1,10 +1,11 @@
 //! Greatest common divisors, and division without remainder.
 
-ghost use Rattle.std.specs.Prelude.{◌≡◌, ◌≢◌, pos, map, unsigned_abs, int_div, All};
+ghost use Rattle.std.specs.Prelude.{◌≡◌, ◌≢◌, pos, map, All};
 ghost use Rattle.std.specs.Int.{◌∣◌, IsGcd};
 ghost use Rattle.xm_rows.specs.Row.{Fits128};
-ghost use Rattle.xm_rows.specs.Divisor.{IsRowDivisor};
+ghost use Rattle.xm_rows.specs.Divisor.{IsRowDivisor, over};
 
+use crate::arithmetic::quotient;
 use crate::row::Entry;
 
 /// The greatest common divisor, 0 where both numbers are.
@@ -36,9 +37,9 @@ pub(crate) fn row_divisor(entries: &[Entry], constant: i128) -> u128
 pub(crate) fn divide(entries: &mut [Entry], factor: i128)
     requires nonzero { factor ≢ pos 0 }
     requires fit { All (λ e. Fits128 e.value) entries.old }
-    ensures { entries.new ≡ map (λ e. record e { value = int_div e.value factor }) entries.old }
+    ensures { entries.new ≡ map (over factor) entries.old }
 {
     for entry in entries.iter_mut() {
-        entry.value /= factor;
+        entry.value = quotient(entry.value, factor);
     }
 }

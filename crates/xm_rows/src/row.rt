@@ -2,8 +2,9 @@
 
 ghost use Rattle.std.specs.Prelude.{◌≡◌, ◌≢◌, ◌<◌, ◌^◌, pos, unsigned_abs, IfOk};
 ghost use Rattle.xm_rows.specs.Row.{SparseRow, IsRow, coefficient};
-ghost use Rattle.xm_rows.specs.Divisor.{IsCommonDivisor, IsRowDivisor, quotient};
+ghost use Rattle.xm_rows.specs.Divisor.{IsCommonDivisor, IsRowDivisor, divided};
 
+use crate::arithmetic::quotient;
 use crate::divisor::{divide, row_divisor};
 use smallvec::SmallVec;
 use std::alloc::Global;
@@ -92,9 +93,9 @@ impl Row {
     pub(crate) fn divide(&mut self, factor: i128)
         requires nonzero { factor ≢ pos 0 }
         requires divides { IsCommonDivisor (unsigned_abs factor) self.old }
-        ensures { self.new ≡ quotient factor self.old }
+        ensures { self.new ≡ divided factor self.old }
     {
         divide(self.entries.as_mut_slice(), factor);
-        self.constant /= factor;
+        self.constant = quotient(self.constant, factor);
     }
 }
