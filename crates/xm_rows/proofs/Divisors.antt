@@ -1,6 +1,6 @@
 -- Greatest common divisors of rows, and rows divided.
-use Rattle.std.proofs.Common.{◌≡◌, ◌≢◌, ℕ, zero, suc, ◌+◌, ◌*◌, ◌^◌, ◌<◌, ◌≤◌, ◌⊎◌, inl, inr, List, [], ◌∷◌, ◌++◌, length, take, get_or, map, Bool, true, false, cond, nat_eq, refl, sym, ◌∙◌, ap, ap₂, subst, arith, pos, negsuc, ℤ, ◌+ℤ◌, ◌*ℤ◌, unsigned_abs, int_div, All}
-use Rattle.std.specs.Int.{◌∣◌, IsGcd}
+use Rattle.std.proofs.Common.{◌≡◌, ◌≢◌, ℕ, zero, suc, ◌+◌, ◌*◌, ◌/◌, ◌^◌, ◌<◌, ◌≤◌, ◌⊎◌, inl, inr, List, [], ◌∷◌, ◌++◌, length, take, get_or, map, Bool, true, false, cond, nat_eq, refl, sym, ◌∙◌, ap, ap₂, subst, arith, pos, negsuc, neg_ℤ, ltb-true, le-ltb, ℤ, ◌+ℤ◌, ◌*ℤ◌, ◌<ℤ◌, unsigned_abs, int_div, All}
+use Rattle.std.specs.Int.{◌∣◌, IsGcd, is_negative}
 use Rattle.std.proofs.lemmas.Int.{unsigned_abs-mul, ints}
 use Rattle.std.proofs.lemmas.List.{take_more, take_all}
 use Rattle.std.proofs.lemmas.List.Elements.{All-head, All-tail, All-cons, All-nil, All-push, All-weaker, All-map}
@@ -9,8 +9,8 @@ use Rattle.std.proofs.Math.IntN.{*ℤ_comm, zero-*ℤ, *ℤ-zero}
 use Rattle.std.proofs.Math.Nat.{eq-zero_of_zero-dvd, dvd_of_mul-dvd-mul_right, mul-dvd-mul_right, one-dvd, dvd-mul_right, le-mul_of_pos_right}
 use Rattle.xm_rows.specs.declared.row.Entry.{Entry}
 use Rattle.xm_rows.specs.Row.{SparseRow, IsRow, IsRising, Fits128, coefficient}
-use Rattle.xm_rows.specs.Divisor.{IsCommonDivisor, IsRowDivisor, IsReduced, over, divided}
-use Rattle.xm_rows.proofs.Integers.{abs_positive, zero_from_abs, quotient_times, distrib}
+use Rattle.xm_rows.specs.Divisor.{IsCommonDivisor, IsRowDivisor, IsReductionOf, IsLeadingFactor, IsPrimitiveOf, over, divided}
+use Rattle.xm_rows.proofs.Integers.{abs_positive, zero_from_abs, quotient_times, distrib, one_times}
 
 all_left : (P : Entry → Type 0) (xs ys : List Entry) → All P (xs ++ ys) → All P xs
 all_left P [] ys h = All-nil P
@@ -124,3 +124,111 @@ divided_row f r nonzero h row =
       fit = All-map (λ e. Fits128 e.value) (over f) r.entries (all_both r.entries row.fit h.0 (λ e p q. fits_quotient e.value f nonzero p q));
       constant_fits = fits_quotient r.constant f nonzero row.constant_fits h.1;
     }
+
+-- ---- what is left after division by the greatest common divisor
+
+-- a divisor of the quotients, taken as often as the factor, divides the numbers
+times_factor : (o : ℕ) (z f : ℤ) → unsigned_abs f ∣ unsigned_abs z → o ∣ unsigned_abs (int_div z f) → o * unsigned_abs f ∣ unsigned_abs z
+times_factor o z f h g =
+    let product = sym (unsigned_abs-mul (int_div z f) f) ∙ ap unsigned_abs (quotient_times z f h) in
+    subst (λ (n : ℕ). o * unsigned_abs f ∣ n) product (mul-dvd-mul_right o g (unsigned_abs f))
+
+times_factors : (o : ℕ) (f : ℤ) (es : List Entry) → All (λ e. unsigned_abs f ∣ unsigned_abs e.value) es → All (λ e. o ∣ unsigned_abs e.value) (map (over f) es) →
+    All (λ e. o * unsigned_abs f ∣ unsigned_abs e.value) es
+times_factors o f [] h g = All-nil (λ e. o * unsigned_abs f ∣ unsigned_abs e.value)
+times_factors o f (e ∷ es) h g =
+    All-cons (λ e. o * unsigned_abs f ∣ unsigned_abs e.value) e es
+    (times_factor o e.value f (All-head (λ e. unsigned_abs f ∣ unsigned_abs e.value) e es h) (All-head (λ e. o ∣ unsigned_abs e.value) (over f e) (map (over f) es) g))
+    (times_factors o f es (All-tail (λ e. unsigned_abs f ∣ unsigned_abs e.value) e es h) (All-tail (λ e. o ∣ unsigned_abs e.value) (over f e) (map (over f) es) g))
+
+pub divided_lowest : (f : ℤ) (r : SparseRow) → f ≢ pos 0 → IsRowDivisor (unsigned_abs f) r → IsRowDivisor 1 (divided f r)
+divided_lowest f r nonzero h =
+    ((λ k d within. one-dvd (unsigned_abs (get_or (map (over f) r.entries) k d).value), one-dvd (unsigned_abs (int_div r.constant f))),
+    λ other common.
+      let whole = h.1 (other * unsigned_abs f) (times_factors other f r.entries h.0.0 common.0, times_factor other r.constant f h.0.1 common.1) in
+      let same : 1 * unsigned_abs f ≡ unsigned_abs f = omega arith in
+      dvd_of_mul-dvd-mul_right other (abs_positive f nonzero) (subst (λ (n : ℕ). other * unsigned_abs f ∣ n) (sym same) whole))
+
+pub reduced_by : (r : SparseRow) (d : ℕ) → 0 < d → IsRowDivisor d r → IsReductionOf r (divided (pos d) r)
+reduced_by r d some h =
+    record {
+      divisor = d;
+      positive = some;
+      entries = λ k. divided_coefficient (pos d) r.entries k h.0.0;
+      constant = *ℤ_comm (pos d) (int_div r.constant (pos d)) ∙ quotient_times r.constant (pos d) h.0.1;
+      reduced = inl (divided_lowest (pos d) r (λ e. absurd (omega (arith, ints))) h)
+    }
+
+-- a divisor 1 or 0 leaves the row as it is
+pub reduced_already : (r : SparseRow) (d : ℕ) → d ≤ 1 → IsRowDivisor d r → (d ≡ 0 → (r.entries ≡ []) × (r.constant ≡ pos 0)) → IsReductionOf r r
+reduced_already r zero le h zeros = record { divisor = 1; positive = omega arith; entries = λ k. one_times (coefficient r.entries k); constant = one_times r.constant; reduced = inr (zeros refl) }
+reduced_already r (suc zero) le h zeros = record { divisor = 1; positive = omega arith; entries = λ k. one_times (coefficient r.entries k); constant = one_times r.constant; reduced = inl h }
+reduced_already r (suc (suc n)) le h zeros = absurd (omega arith)
+
+-- ---- a positive lead
+
+not_negative : (n : ℕ) → is_negative (pos n) ≡ true → ⊥
+not_negative n e = absurd (let below = ltb-true n 0 e in omega arith)
+
+is_negative_down : (d : ℕ) → 0 < d → is_negative (neg_ℤ (pos d)) ≡ true
+is_negative_down zero some = absurd (omega arith)
+is_negative_down (suc n) some = refl
+
+is_negative_up : (d : ℕ) → is_negative (pos d) ≡ false
+is_negative_up d = le-ltb d 0 (omega arith)
+
+abs_down : (d : ℕ) → unsigned_abs (neg_ℤ (pos d)) ≡ d
+abs_down zero = refl
+abs_down (suc n) = refl
+
+positive : (n : ℕ) → pos n ≢ pos 0 → pos 0 <ℤ pos n
+positive zero some = absurd (some refl)
+positive (suc n) some = omega (arith, ints)
+
+positive_quotient : (z f : ℤ) → int_div z f ≢ pos 0 → is_negative f ≡ is_negative z → pos 0 <ℤ int_div z f
+positive_quotient (pos a) (pos b) some same = positive (a / b) some
+positive_quotient (pos a) (negsuc b) some same = absurd (not_negative a (sym same))
+positive_quotient (negsuc a) (pos b) some same = absurd (not_negative b same)
+positive_quotient (negsuc a) (negsuc b) some same = positive (suc a / suc b) some
+
+lead_positive : (f : ℤ) (gs : List Entry) (e : Entry) (es : List Entry) → All (λ g. g.value ≢ pos 0) gs → All (λ g. unsigned_abs f ∣ unsigned_abs g.value) gs →
+    ((g : Entry) (rest : List Entry) → gs ≡ g ∷ rest → is_negative f ≡ is_negative g.value) → map (over f) gs ≡ e ∷ es → pos 0 <ℤ e.value
+lead_positive f [] e es nonzero h sign is = absurd (cc)
+lead_positive f (g ∷ gs) e es nonzero h sign is =
+    let first : over f g ≡ e = cc in
+    let some = nonzero_quotient g.value f (All-head (λ g. g.value ≢ pos 0) g gs nonzero) (All-head (λ g. unsigned_abs f ∣ unsigned_abs g.value) g gs h) in
+    subst (λ (k : Entry). pos 0 <ℤ k.value) first (positive_quotient g.value f some (sign g gs refl))
+
+pub primitive_by : (f : ℤ) (r : SparseRow) → IsRow r → IsLeadingFactor f r → IsPrimitiveOf r (divided f r)
+primitive_by f r row h =
+    record {
+      factor = f;
+      nonzero = h.nonzero;
+      entries = λ k. divided_coefficient f r.entries k h.greatest.0.0;
+      constant = *ℤ_comm f (int_div r.constant f) ∙ quotient_times r.constant f h.greatest.0.1;
+      leads = λ e es is. lead_positive f r.entries e es row.nonzero h.greatest.0.0 h.sign is;
+      lowest = divided_lowest f r h.nonzero h.greatest
+    }
+
+-- a row with entries has a divisor that is not 0
+pub some_divisor : (r : SparseRow) (d : ℕ) → IsRow r → IsRowDivisor d r → 1 ≤ length r.entries → 0 < d
+some_divisor r zero row h some = let none = ap length (zero_divisor r row h).0 in absurd (omega arith)
+some_divisor r (suc n) row h some = omega arith
+
+leading_by : (f : ℤ) (d : ℕ) (r : SparseRow) (none : Entry) → unsigned_abs f ≡ d → 0 < d → IsRowDivisor d r → 1 ≤ length r.entries →
+    is_negative f ≡ is_negative (get_or r.entries 0 none).value → IsLeadingFactor f r
+leading_by f d r none is positive h some sign =
+    record {
+      some = λ e. absurd (let gone = ap length e in omega arith);
+      greatest = subst (λ (n : ℕ). IsRowDivisor n r) (sym is) h;
+      nonzero = λ e. absurd (let gone = ap unsigned_abs e in omega arith);
+      sign = λ e es first. sign ∙ ap (λ (l : List Entry). is_negative (get_or l 0 none).value) first
+    }
+
+pub leading_down : (d : ℕ) (r : SparseRow) (none : Entry) → 0 < d → IsRowDivisor d r → 1 ≤ length r.entries →
+    is_negative (get_or r.entries 0 none).value ≡ true → IsLeadingFactor (neg_ℤ (pos d)) r
+leading_down d r none positive h some sign = leading_by (neg_ℤ (pos d)) d r none (abs_down d) positive h some (is_negative_down d positive ∙ sym sign)
+
+pub leading_up : (d : ℕ) (r : SparseRow) (none : Entry) → 0 < d → IsRowDivisor d r → 1 ≤ length r.entries →
+    is_negative (get_or r.entries 0 none).value ≡ false → IsLeadingFactor (pos d) r
+leading_up d r none positive h some sign = leading_by (pos d) d r none refl positive h some (is_negative_up d ∙ sym sign)

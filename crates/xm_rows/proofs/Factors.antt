@@ -3,7 +3,7 @@ use Rattle.std.proofs.Common.{◌≡◌, ◌≢◌, ℕ, zero, suc, ◌^◌, ◌
 use Rattle.std.specs.Int.{◌∣◌, IsGcd, int_signum}
 use Rattle.std.proofs.lemmas.Int.{ints}
 use Rattle.std.proofs.lemmas.Nat.Gcd.{le_of_dvd, same_from_IsGcd}
-use Rattle.std.proofs.Math.IntN.{*ℤ_comm, zero-*ℤ}
+use Rattle.std.proofs.Math.IntN.{*ℤ_comm, *ℤ-zero}
 use Rattle.std.proofs.Math.Nat.{pos_of_dvd_of_pos}
 use Rattle.xm_rows.specs.Row.{Fits128}
 use Rattle.xm_rows.specs.Combination.{AreFactors}
@@ -61,3 +61,21 @@ factors_down a b u v x y g down h first second turned_x turned_y =
 -- the divisor that the code computes is that of the numbers
 pub gcd_of : (a b x y : ℤ) (m n g : ℕ) → m ≡ unsigned_abs x → x ≡ a → n ≡ unsigned_abs y → y ≡ b → IsGcd m n g → IsGcd (unsigned_abs a) (unsigned_abs b) g
 gcd_of a b x y m n g first same_x second same_y h = rw (first, same_x, second, same_y) at h
+
+-- ---- the column is gone
+
+sign_abs : (b : ℤ) → int_signum b *ℤ b ≡ pos (unsigned_abs b)
+sign_abs (pos zero) = *ℤ-zero (int_signum (pos zero))
+sign_abs (pos (suc n)) = sym (sign_up (pos (suc n)) (pos (suc n)) (λ e. absurd (omega (arith, ints))) (omega (arith, ints)))
+sign_abs (negsuc n) = sym (sign_down (negsuc n) (negsuc n) (omega (arith, ints)))
+
+pub factors_cancel : (a b u v : ℤ) → b ≢ pos 0 → AreFactors a b u v → (u *ℤ a) -ℤ (v *ℤ b) ≡ pos 0
+factors_cancel a b u v nonzero f =
+    let g = pos f.divisor in
+    let some = gcd_positive a b f.divisor nonzero f.greatest in
+    let first = assoc g u a ∙ ap (λ (z : ℤ). z *ℤ a) f.first in
+    let second = assoc g v b ∙ ap (λ (z : ℤ). z *ℤ b) f.second ∙ ap (λ (z : ℤ). z *ℤ b) (*ℤ_comm (int_signum b) a) ∙ sym (assoc a (int_signum b) b)
+        ∙ ap (λ (z : ℤ). a *ℤ z) (sign_abs b) ∙ *ℤ_comm a (pos (unsigned_abs b)) in
+    let same : g *ℤ (u *ℤ a) ≡ g *ℤ (v *ℤ b) = first ∙ sym second in
+    let equal = one_factor g (u *ℤ a) (v *ℤ b) (λ e. absurd (omega (arith, ints))) same in
+    omega (arith, ints)

@@ -5,3 +5,4 @@ pub mod Factors
 pub mod Merging
 pub mod Sums
 pub mod Meeting
+pub mod Cancelling

@@ -46,10 +46,7 @@ pub fn cancel(alloc: Global, r: &Row, s: &Row, column: u32) -> Result<Row, Cance
     };
     let entries = merge(alloc, u, r.entries(), v, s.entries())?;
     let mut row = Row::from_entries(entries, constant);
-    let divisor = row.divisor();
-    if divisor > 1 {
-        row.divide(divisor as i128);
-    }
+    row.reduce();
     Ok(row)
 }
 

@@ -1,8 +1,8 @@
 //! Rows: entries in rising columns, and a constant.
 
-ghost use Rattle.std.specs.Prelude.{◌≡◌, ◌≢◌, ◌<◌, ◌^◌, pos, unsigned_abs, IfOk};
-ghost use Rattle.xm_rows.specs.Row.{SparseRow, IsRow, coefficient};
-ghost use Rattle.xm_rows.specs.Divisor.{IsCommonDivisor, IsRowDivisor, divided};
+ghost use Rattle.std.specs.Prelude.{◌≡◌, ◌≢◌, ◌<◌, ◌^◌, [], pos, unsigned_abs, IfOk};
+ghost use Rattle.xm_rows.specs.Row.{IsRow, Fits128, coefficient};
+ghost use Rattle.xm_rows.specs.Divisor.{IsCommonDivisor, IsRowDivisor, IsReductionOf, divided};
 
 use crate::arithmetic::quotient;
 use crate::divisor::{divide, row_divisor};
@@ -71,7 +71,8 @@ impl Row {
 
     /// The value in `column`, 0 where there is no entry. It looks through the entries.
     pub fn value_at(&self, column: u32) -> i128
-        ensures { result ≡ coefficient self.now.entries column }
+        ensures value { result ≡ coefficient self.now.entries column }
+        ensures fits { Fits128 result }
     {
         for entry in self.entries() {
             if entry.column == column {
@@ -85,6 +86,7 @@ impl Row {
     pub(crate) fn divisor(&self) -> u128
         ensures greatest { IsRowDivisor result self.now }
         ensures bound { result < 2 ^ 127 }
+        ensures zeros { result ≡ 0 → (self.now.entries ≡ []) × (self.now.constant ≡ pos 0) }
     {
         row_divisor(self.entries(), self.constant)
     }
@@ -97,5 +99,17 @@ impl Row {
     {
         divide(self.entries.as_mut_slice(), factor);
         self.constant = quotient(self.constant, factor);
+    }
+
+    /// Divides the row by the greatest common divisor of its values and its constant. A row without
+    /// entries and with constant 0 stays as it is.
+    pub(crate) fn reduce(&mut self)
+        ensures { IsReductionOf self.old self.new }
+    {
+        let divisor = self.divisor();
+        if divisor <= 1 {
+            return;
+        }
+        self.divide(divisor as i128);
     }
 }

@@ -33,12 +33,12 @@ loop-entry-init c = record { rising = subst IsRising (sym c.entries-entry-items.
 pub loop-entry-preserved : goal.loop-entry-preserved
 loop-entry-preserved c = ahead_more _ _ _ _ c.loop-entry-test.true c.loop-entry.invariant c.if-entry-column.false
 
-pub returns-then-entry-column : goal.returns-then-entry-column
-returns-then-entry-column c =
+pub returns-then-entry-column-clause-value : goal.returns-then-entry-column-clause-value
+returns-then-entry-column-clause-value c =
     to_z-of_z w128 _ (search rules) ∙ ahead_found _ _ _ _ c.loop-entry-test.true c.loop-entry.invariant c.if-entry-column.true
     ∙ ap (λ (l : List Entry). coefficient l c.args.column) c.entries-entry-items.ensures.value
 
-pub returns : goal.returns
-returns c =
+pub returns-clause-value : goal.returns-clause-value
+returns-clause-value c =
     ahead_none _ _ _ c.loop-entry-test.false c.loop-entry.invariant
     ∙ ap (λ (l : List Entry). coefficient l c.args.column) c.entries-entry-items.ensures.value
