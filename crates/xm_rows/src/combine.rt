@@ -1,6 +1,6 @@
 //! A column cancelled between two rows.
 
-ghost use Rattle.std.specs.Prelude.{◌≡◌, ◌≢◌, ◌⊎◌, ℕ, ◌≤◌, [], pos, IfOk, IfSome, IfNone, IsErrOf, All};
+ghost use Rattle.std.specs.Prelude.{◌≡◌, ◌≢◌, ◌⊎◌, ℕ, ◌≤◌, [], pos, IfOk, IfSome, IfNone, IsErr, IsErrOf, All};
 ghost use Rattle.xm_rows.specs.declared.combine.CancelFault.TheVariants.{OutOfMemory};
 ghost use Rattle.xm_rows.specs.Row.{Fits128, IsRising, coefficient};
 ghost use Rattle.xm_rows.specs.Combination.{AreFactors, DifferenceFits, IsCancelled, Overflows};
@@ -39,6 +39,7 @@ pub fn cancel(alloc: Global, r: &Row, s: &Row, column: u32) -> Result<Row, Cance
     ensures ok { IfOk result (λ t. IsCancelled r.now s.now column t) }
     ensures gone { IfOk result (λ t. coefficient t.entries column ≡ pos 0) }
     ensures overflow { IsErrOf result CancelFault.Overflow → Overflows r.now s.now column }
+    ensures leaves { Overflows r.now s.now column → IsErr result }
 {
     let (u, v) = factors(r.value_at(column), s.value_at(column));
     let Some(constant) = difference(u, r.constant(), v, s.constant()) else {

@@ -11,7 +11,7 @@ use std::alloc::Global;
 use std::marker::Model;
 use xm_model::OutOfMemory;
 
-/// A value in a column.
+/// A value in a column. The default is 0 in column 0, which no row has.
 #[derive(Clone, Copy, PartialEq, Eq, Debug, Default)]
 pub struct Entry {
     pub column: u32,

@@ -3,7 +3,7 @@ use Rattle.std.specs.Int.{w128}
 use Rattle.std.proofs.lemmas.Int.{to_z-of_z}
 use Rattle.xm_rows.specs.Row.{coefficient}
 use Rattle.xm_rows.specs.Combination.{IsCancelled}
-use Rattle.xm_rows.proofs.Cancelling.{overflows_by, leaves_in_constant, leaves_at_column, merged_row, cancelled_by, gone_by}
+use Rattle.xm_rows.proofs.Cancelling.{overflows_by, leaves_in_constant, leaves_at_column, merged_row, cancelled_by, gone_by, never_both}
 use Rattle.xm_rows.proofs.combine.cancel.Goals as goal
 
 pub returns-in_default-clause-overflow : goal.returns-in_default-clause-overflow
@@ -63,3 +63,6 @@ returns-clause-gone c = gone_by c.args.r.now c.args.s.now c.args.column c.reduce
 
 pub returns-clause-ok : goal.returns-clause-ok
 returns-clause-ok c = ok c
+
+pub returns-clause-leaves : goal.returns-clause-leaves
+returns-clause-leaves c = λ leaves. absurd (never_both c.args.r.now c.args.s.now c.args.column c.reduce.new.self c.requires.second (ok c) leaves)
