@@ -1,7 +1,6 @@
 -- What `cancel` says, put together from the factors, the merge and the reduction.
-use Rattle.std.proofs.Common.{◌≡◌, ◌≢◌, ℕ, List, inl, inr, sym, ◌∙◌, ap, subst, arith, pos, ℤ, ◌-ℤ◌, ◌*ℤ◌}
+use Rattle.std.proofs.Common.{◌≡◌, ◌≢◌, ℕ, List, inl, inr, sym, ◌∙◌, subst, arith, pos, ℤ, ◌-ℤ◌, ◌*ℤ◌}
 use Rattle.std.proofs.lemmas.Int.{ints}
-use Rattle.std.proofs.Math.IntN.{*ℤ-zero}
 use Rattle.xm_rows.specs.declared.row.Entry.{Entry}
 use Rattle.xm_rows.specs.Row.{SparseRow, IsRow, Fits128, coefficient}
 use Rattle.xm_rows.specs.Divisor.{IsReductionOf}
@@ -46,8 +45,8 @@ cancelled_by r s column u v a b first second out first_constant second_constant 
         positive = reduced.positive;
         entries = λ k. reduced.entries k ∙ merged.same k;
         constant = reduced.constant ∙ constants.1;
-        reduced = reduced.reduced
-      }
+        reduced = reduced.reduced;
+      };
     }
 
 -- the cancelled column is gone

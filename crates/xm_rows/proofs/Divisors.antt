@@ -4,9 +4,9 @@ use Rattle.std.specs.Int.{◌∣◌, IsGcd, is_negative}
 use Rattle.std.proofs.lemmas.Int.{unsigned_abs-mul, ints}
 use Rattle.std.proofs.lemmas.List.{take_more, take_all}
 use Rattle.std.proofs.lemmas.List.Elements.{All-head, All-tail, All-cons, All-nil, All-push, All-weaker, All-map}
-use Rattle.std.proofs.lemmas.Nat.Gcd.{dvd_refl, dvd_trans, dvd-zero, le_of_dvd, dvd_antisymm}
+use Rattle.std.proofs.lemmas.Nat.Gcd.{dvd_refl, dvd_trans, le_of_dvd}
 use Rattle.std.proofs.Math.IntN.{*ℤ_comm, zero-*ℤ, *ℤ-zero}
-use Rattle.std.proofs.Math.Nat.{eq-zero_of_zero-dvd, dvd_of_mul-dvd-mul_right, mul-dvd-mul_right, one-dvd, dvd-mul_right, le-mul_of_pos_right}
+use Rattle.std.proofs.Math.Nat.{eq-zero_of_zero-dvd, dvd_of_mul-dvd-mul_right, mul-dvd-mul_right, one-dvd, le-mul_of_pos_right}
 use Rattle.xm_rows.specs.declared.row.Entry.{Entry}
 use Rattle.xm_rows.specs.Row.{SparseRow, IsRow, IsRising, Fits128, coefficient}
 use Rattle.xm_rows.specs.Divisor.{IsCommonDivisor, IsRowDivisor, IsReductionOf, IsLeadingFactor, IsPrimitiveOf, over, divided}
@@ -142,12 +142,13 @@ times_factors o f (e ∷ es) h g =
     (times_factors o f es (All-tail (λ e. unsigned_abs f ∣ unsigned_abs e.value) e es h) (All-tail (λ e. o ∣ unsigned_abs e.value) (over f e) (map (over f) es) g))
 
 pub divided_lowest : (f : ℤ) (r : SparseRow) → f ≢ pos 0 → IsRowDivisor (unsigned_abs f) r → IsRowDivisor 1 (divided f r)
-divided_lowest f r nonzero h =
-    ((λ k d within. one-dvd (unsigned_abs (get_or (map (over f) r.entries) k d).value), one-dvd (unsigned_abs (int_div r.constant f))),
-    λ other common.
+divided_lowest f r nonzero h = (
+  (λ k d within. one-dvd (unsigned_abs (get_or (map (over f) r.entries) k d).value), one-dvd (unsigned_abs (int_div r.constant f))),
+  λ other common.
       let whole = h.1 (other * unsigned_abs f) (times_factors other f r.entries h.0.0 common.0, times_factor other r.constant f h.0.1 common.1) in
       let same : 1 * unsigned_abs f ≡ unsigned_abs f = omega arith in
-      dvd_of_mul-dvd-mul_right other (abs_positive f nonzero) (subst (λ (n : ℕ). other * unsigned_abs f ∣ n) (sym same) whole))
+      dvd_of_mul-dvd-mul_right other (abs_positive f nonzero) (subst (λ (n : ℕ). other * unsigned_abs f ∣ n) (sym same) whole),
+)
 
 pub reduced_by : (r : SparseRow) (d : ℕ) → 0 < d → IsRowDivisor d r → IsReductionOf r (divided (pos d) r)
 reduced_by r d some h =
@@ -156,7 +157,7 @@ reduced_by r d some h =
       positive = some;
       entries = λ k. divided_coefficient (pos d) r.entries k h.0.0;
       constant = *ℤ_comm (pos d) (int_div r.constant (pos d)) ∙ quotient_times r.constant (pos d) h.0.1;
-      reduced = inl (divided_lowest (pos d) r (λ e. absurd (omega (arith, ints))) h)
+      reduced = inl (divided_lowest (pos d) r (λ e. absurd (omega (arith, ints))) h);
     }
 
 -- a divisor 1 or 0 leaves the row as it is
@@ -207,7 +208,7 @@ primitive_by f r row h =
       entries = λ k. divided_coefficient f r.entries k h.greatest.0.0;
       constant = *ℤ_comm f (int_div r.constant f) ∙ quotient_times r.constant f h.greatest.0.1;
       leads = λ e es is. lead_positive f r.entries e es row.nonzero h.greatest.0.0 h.sign is;
-      lowest = divided_lowest f r h.nonzero h.greatest
+      lowest = divided_lowest f r h.nonzero h.greatest;
     }
 
 -- a row with entries has a divisor that is not 0
@@ -222,7 +223,7 @@ leading_by f d r none is positive h some sign =
       some = λ e. absurd (let gone = ap length e in omega arith);
       greatest = subst (λ (n : ℕ). IsRowDivisor n r) (sym is) h;
       nonzero = λ e. absurd (let gone = ap unsigned_abs e in omega arith);
-      sign = λ e es first. sign ∙ ap (λ (l : List Entry). is_negative (get_or l 0 none).value) first
+      sign = λ e es first. sign ∙ ap (λ (l : List Entry). is_negative (get_or l 0 none).value) first;
     }
 
 pub leading_down : (d : ℕ) (r : SparseRow) (none : Entry) → 0 < d → IsRowDivisor d r → 1 ≤ length r.entries →

@@ -1,13 +1,13 @@
 -- The factors that cancel a column.
-use Rattle.std.proofs.Common.{◌≡◌, ◌≢◌, ℕ, zero, suc, ◌^◌, ◌<◌, min, refl, sym, ◌∙◌, ap, arith, pos, negsuc, neg_ℤ, ℤ, ◌+ℤ◌, ◌-ℤ◌, ◌*ℤ◌, ◌<ℤ◌, ◌≤ℤ◌, unsigned_abs, int_div}
+use Rattle.std.proofs.Common.{◌≡◌, ◌≢◌, ℕ, zero, suc, ◌^◌, ◌<◌, min, refl, sym, ◌∙◌, ap, arith, pos, negsuc, neg_ℤ, ℤ, ◌-ℤ◌, ◌*ℤ◌, ◌<ℤ◌, ◌≤ℤ◌, unsigned_abs, int_div}
 use Rattle.std.specs.Int.{◌∣◌, IsGcd, int_signum}
 use Rattle.std.proofs.lemmas.Int.{ints}
-use Rattle.std.proofs.lemmas.Nat.Gcd.{le_of_dvd, same_from_IsGcd}
+use Rattle.std.proofs.lemmas.Nat.Gcd.{le_of_dvd}
 use Rattle.std.proofs.Math.IntN.{*ℤ_comm, *ℤ-zero}
 use Rattle.std.proofs.Math.Nat.{pos_of_dvd_of_pos}
 use Rattle.xm_rows.specs.Row.{Fits128}
 use Rattle.xm_rows.specs.Combination.{AreFactors}
-use Rattle.xm_rows.proofs.Integers.{abs_positive, quotient_times, one_times, negated, times_negated, distrib, assoc, one_factor, zero_factor}
+use Rattle.xm_rows.proofs.Integers.{abs_positive, quotient_times, one_times, negated, times_negated, assoc, one_factor}
 
 pub gcd_positive : (a b : ℤ) (g : ℕ) → b ≢ pos 0 → IsGcd (unsigned_abs a) (unsigned_abs b) g → 0 < g
 gcd_positive a b g nonzero h = pos_of_dvd_of_pos h.1 (abs_positive b nonzero)
@@ -75,7 +75,7 @@ factors_cancel a b u v nonzero f =
     let some = gcd_positive a b f.divisor nonzero f.greatest in
     let first = assoc g u a ∙ ap (λ (z : ℤ). z *ℤ a) f.first in
     let second = assoc g v b ∙ ap (λ (z : ℤ). z *ℤ b) f.second ∙ ap (λ (z : ℤ). z *ℤ b) (*ℤ_comm (int_signum b) a) ∙ sym (assoc a (int_signum b) b)
-        ∙ ap (λ (z : ℤ). a *ℤ z) (sign_abs b) ∙ *ℤ_comm a (pos (unsigned_abs b)) in
+    ∙ ap (λ (z : ℤ). a *ℤ z) (sign_abs b) ∙ *ℤ_comm a (pos (unsigned_abs b)) in
     let same : g *ℤ (u *ℤ a) ≡ g *ℤ (v *ℤ b) = first ∙ sym second in
     let equal = one_factor g (u *ℤ a) (v *ℤ b) (λ e. absurd (omega (arith, ints))) same in
     omega (arith, ints)

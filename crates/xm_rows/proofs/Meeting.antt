@@ -1,15 +1,13 @@
 -- Points that meet combinations of rows.
-use Rattle.std.proofs.Common.{◌≡◌, ◌≢◌, ◌↔◌, ℕ, zero, suc, ◌+◌, ◌<◌, ◌≤◌, inl, inr, List, [], ◌∷◌, cond, nat_eq, refl, sym, ◌∙◌, ap, ap₂, arith, pos, ℤ, ◌+ℤ◌, ◌-ℤ◌, ◌*ℤ◌, ◌<ℤ◌, neg_ℤ, unsigned_abs}
-use Rattle.std.specs.Int.{int_signum}
+use Rattle.std.proofs.Common.{◌≡◌, ◌≢◌, ℕ, zero, suc, ◌+◌, ◌<◌, ◌≤◌, inl, inr, List, [], ◌∷◌, cond, nat_eq, refl, sym, ◌∙◌, ap, ap₂, arith, pos, ℤ, ◌+ℤ◌, ◌-ℤ◌, ◌*ℤ◌, neg_ℤ, unsigned_abs}
 use Rattle.std.proofs.lemmas.Bool.{cases_eq}
 use Rattle.std.proofs.lemmas.Int.{ints}
 use Rattle.std.proofs.lemmas.Nat.Gcd.{same_from_IsGcd}
-use Rattle.std.proofs.Math.IntN.{+ℤ_idl, +ℤ_idr, *ℤ_comm, zero-*ℤ, *ℤ-zero}
+use Rattle.std.proofs.Math.IntN.{zero-*ℤ, *ℤ-zero}
 use Rattle.xm_rows.specs.declared.row.Entry.{Entry}
 use Rattle.xm_rows.specs.Row.{SparseRow, coefficient, left_side}
 use Rattle.xm_rows.specs.Divisor.{IsPrimitiveOf}
-use Rattle.xm_rows.specs.Combination.{AreFactors, IsCombination}
-use Rattle.xm_rows.specs.Points.{Meets, KeepsPoints, GivesBackPoints, OnePairOfFactors, PrimitiveKeepsPoints}
+use Rattle.xm_rows.specs.Points.{KeepsPoints, GivesBackPoints, OnePairOfFactors, PrimitiveKeepsPoints}
 use Rattle.xm_rows.proofs.Integers.{distrib, distrib_right, assoc, negated, one_times, one_factor, crossed, times_difference}
 use Rattle.xm_rows.proofs.Entries.{own_column, other_column}
 use Rattle.xm_rows.proofs.Factors.{gcd_positive}
@@ -140,9 +138,10 @@ pub one_pair : OnePairOfFactors
 one_pair a b u v u' v' nonzero first second =
     let same = same_from_IsGcd (unsigned_abs a) (unsigned_abs b) first.divisor second.divisor first.greatest second.greatest in
     let some = positive_nonzero first.divisor (gcd_positive a b first.divisor nonzero first.greatest) in
-    let moved = λ (z : ℤ). ap (λ (g : ℕ). pos g *ℤ z) same in
-    (one_factor (pos first.divisor) u u' some (first.first ∙ sym (moved u' ∙ second.first)),
-    one_factor (pos first.divisor) v v' some (first.second ∙ sym (moved v' ∙ second.second)))
+    let moved = λ (z : ℤ). ap (λ (g : ℕ). pos g *ℤ z) same in (
+      one_factor (pos first.divisor) u u' some (first.first ∙ sym (moved u' ∙ second.first)),
+      one_factor (pos first.divisor) v v' some (first.second ∙ sym (moved v' ∙ second.second)),
+    )
 
 -- old is the factor times new, side by side
 primitive_sides : (old new : SparseRow) (x : ℕ → ℤ) (p : IsPrimitiveOf old new) → p.factor *ℤ left_side new.entries x ≡ left_side old.entries x
@@ -156,6 +155,7 @@ primitive_sides old new x p =
 pub primitive_points : PrimitiveKeepsPoints
 primitive_points old new m x p =
     let sides = primitive_sides old new x p in
-    let constants = crossed m p.factor new.constant ∙ ap (λ (z : ℤ). m *ℤ z) p.constant in
-    (λ on_old. one_factor p.factor (left_side new.entries x) (m *ℤ new.constant) p.nonzero (sides ∙ on_old ∙ sym constants),
-    λ on_new. sym sides ∙ ap (λ (z : ℤ). p.factor *ℤ z) on_new ∙ constants)
+    let constants = crossed m p.factor new.constant ∙ ap (λ (z : ℤ). m *ℤ z) p.constant in (
+      λ on_old. one_factor p.factor (left_side new.entries x) (m *ℤ new.constant) p.nonzero (sides ∙ on_old ∙ sym constants),
+      λ on_new. sym sides ∙ ap (λ (z : ℤ). p.factor *ℤ z) on_new ∙ constants,
+    )

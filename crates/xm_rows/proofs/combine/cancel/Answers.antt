@@ -1,7 +1,6 @@
-use Rattle.std.proofs.Common.{◌≡◌, ℤ, Err, to_z, of_z, SFits, sym, ◌∙◌, ap, rules}
+use Rattle.std.proofs.Common.{Err, to_z, of_z, SFits, sym, ◌∙◌, ap, rules}
 use Rattle.std.specs.Int.{w128}
 use Rattle.std.proofs.lemmas.Int.{to_z-of_z}
-use Rattle.xm_rows.specs.Row.{coefficient}
 use Rattle.xm_rows.specs.Combination.{IsCancelled}
 use Rattle.xm_rows.proofs.Cancelling.{overflows_by, leaves_in_constant, leaves_at_column, merged_row, cancelled_by, gone_by, never_both}
 use Rattle.xm_rows.proofs.combine.cancel.Goals as goal
@@ -27,13 +26,13 @@ returns-in_err-entries-clause-overflow c =
     let u : SFits w128 c.factors-u.result.0 = search rules in
     let v : SFits w128 c.factors-u.result.1 = search rules in
     λ is.
-      let same = rw is at c.from_residual.ensures.1 in
-      let leaves = c.in_err-entries.ensures.overflow (ap Err (sym same)) in
-      overflows_by c.args.r.now c.args.s.now c.args.column c.factors-u.result.0 c.factors-u.result.1 _ _ c.factors-u.ensures
-      (to_z-of_z w128 c.value_at.result a ∙ c.value_at.ensures.value)
-      (to_z-of_z w128 c.value_at-2.result b ∙ c.value_at-2.ensures.value)
-      (leaves_at_column c.args.r.now c.args.s.now _ _ c.entries.result.now c.entries-2.result.now c.entries.ensures.value c.entries-2.ensures.value
-      (simp to_z-of_z at leaves))
+    let same = rw is at c.from_residual.ensures.1 in
+    let leaves = c.in_err-entries.ensures.overflow (ap Err (sym same)) in
+    overflows_by c.args.r.now c.args.s.now c.args.column c.factors-u.result.0 c.factors-u.result.1 _ _ c.factors-u.ensures
+    (to_z-of_z w128 c.value_at.result a ∙ c.value_at.ensures.value)
+    (to_z-of_z w128 c.value_at-2.result b ∙ c.value_at-2.ensures.value)
+    (leaves_at_column c.args.r.now c.args.s.now _ _ c.entries.result.now c.entries-2.result.now c.entries.ensures.value c.entries-2.ensures.value
+    (simp to_z-of_z at leaves))
 
 pub from_entries-row-requires : goal.from_entries-row-requires
 from_entries-row-requires c =

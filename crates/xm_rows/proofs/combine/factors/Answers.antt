@@ -1,5 +1,5 @@
-use Rattle.std.proofs.Common.{◌≡◌, ℤ, pos, negsuc, ◌-ℤ◌, ◌∙◌, ◌<ℤ◌, ◌≤ℤ◌, ◌<◌, ◌^◌, unsigned_abs, int_div, neg_ℤ, to_z, of_z, SFits, arith, rules}
-use Rattle.std.specs.Int.{w128, IsGcd}
+use Rattle.std.proofs.Common.{◌≡◌, ℤ, pos, ◌-ℤ◌, ◌∙◌, int_div, neg_ℤ, to_z, of_z, SFits, arith, rules}
+use Rattle.std.specs.Int.{w128}
 use Rattle.std.proofs.lemmas.Int.{to_z-of_z, to_z_pos, fits_signed_from_abs, ints}
 use Rattle.xm_rows.specs.Row.{Fits128}
 use Rattle.xm_rows.proofs.Factors.{gcd_positive, gcd_fits, gcd_of, factors_up, factors_down}

@@ -1,4 +1,4 @@
-use Rattle.std.proofs.Common.{arith, tests, ◌∙◌, pos, SFits, rules}
+use Rattle.std.proofs.Common.{arith, tests, ◌∙◌, pos, rules}
 use Rattle.std.specs.Int.{w128}
 use Rattle.std.proofs.lemmas.Int.{to_z-of_z}
 use Rattle.xm_rows.proofs.Entries.{first_taken, none_taken}

@@ -1,10 +1,9 @@
-use Rattle.std.proofs.Common.{◌≡◌, ◌≢◌, ℕ, ℤ, ◌+◌, ◌<◌, ◌≤◌, ◌^◌, List, length, get_or, take, pos, unsigned_abs, All, SFits, to_z, of_z, arith, rules}
+use Rattle.std.proofs.Common.{◌≢◌, ℕ, ℤ, ◌+◌, ◌<◌, ◌≤◌, ◌^◌, List, length, get_or, take, pos, unsigned_abs, to_z, of_z, arith, rules}
 use Rattle.std.specs.Int.{w128}
-use Rattle.std.proofs.lemmas.Int.{to_z-of_z}
 use Rattle.std.proofs.lemmas.List.{take_more, take_all}
 use Rattle.std.proofs.lemmas.List.Elements.{All-nil, All-more, All-weaker}
 use Rattle.xm_rows.specs.declared.row.Entry.{Entry}
-use Rattle.xm_rows.specs.Row.{IsRow, IsRising, Fits128}
+use Rattle.xm_rows.specs.Row.{IsRow, Fits128}
 use Rattle.xm_rows.proofs.Entries.{rising_push}
 use Rattle.xm_rows.proofs.tests.row.Invariants.{AreEntries}
 use Rattle.xm_rows.proofs.tests.row.Goals as goal
@@ -18,7 +17,7 @@ more es i lowest none within h nonzero fits low =
       rising = rw (take_more es i none within) (rising_push (take i es) e h.rising below);
       nonzero = All-more (λ f. f.value ≢ pos 0) es i none within h.nonzero nonzero;
       fit = All-more (λ f. Fits128 f.value) es i none within h.fit fits;
-      below = All-more (λ f. f.column < e.column + 1) es i none within (All-weaker (λ f. f.column < e.column) (λ f. f.column < e.column + 1) (λ f p. omega arith) (take i es) below) (omega arith)
+      below = All-more (λ f. f.column < e.column + 1) es i none within (All-weaker (λ f. f.column < e.column) (λ f. f.column < e.column + 1) (λ f p. omega arith) (take i es) below) (omega arith);
     }
 
 whole : (es : List Entry) (i lowest : ℕ) (z : ℤ) → length es ≤ i → AreEntries (take i es) lowest → Fits128 z → IsRow (record { entries = es; constant = z })

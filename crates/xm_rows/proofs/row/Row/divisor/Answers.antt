@@ -1,8 +1,8 @@
-use Rattle.std.proofs.Common.{◌≡◌, ℕ, ℤ, List, pos, [], ◌∙◌, ap, subst, to_z, of_z, SFits, rules}
+use Rattle.std.proofs.Common.{◌≡◌, ℕ, ℤ, List, ◌∙◌, ap, subst, to_z, of_z, SFits, rules}
 use Rattle.std.specs.Int.{w128}
 use Rattle.std.proofs.lemmas.Int.{to_z-of_z}
 use Rattle.xm_rows.specs.declared.row.Entry.{Entry}
-use Rattle.xm_rows.specs.Row.{SparseRow, IsRow}
+use Rattle.xm_rows.specs.Row.{SparseRow}
 use Rattle.xm_rows.specs.Divisor.{IsRowDivisor}
 use Rattle.xm_rows.proofs.Divisors.{divisor_fits, zero_divisor}
 use Rattle.xm_rows.proofs.row.Row.divisor.Goals as goal
