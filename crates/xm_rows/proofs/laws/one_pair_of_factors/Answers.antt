@@ -1,0 +1,5 @@
+use Rattle.xm_rows.proofs.Meeting.{one_pair}
+use Rattle.xm_rows.proofs.laws.one_pair_of_factors.Goals as goal
+
+pub returns : goal.returns
+returns c = one_pair

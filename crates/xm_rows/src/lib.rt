@@ -1,0 +1,22 @@
+//! Exact sparse rows over 128 bits: columns cancelled, primitive rows, and left sides at a point.
+#![tactic(auto)]
+
+mod arithmetic;
+mod combine;
+mod divisor;
+mod evaluate;
+mod laws;
+mod reduce;
+mod row;
+
+pub use combine::{CancelFault, cancel};
+pub use evaluate::dot;
+pub use laws::{
+    combination_gives_back_points, combination_keeps_points, first_factor_is_positive,
+    one_pair_of_factors, primitive_is_in_lowest_terms, primitive_keeps_points,
+};
+pub use reduce::primitive;
+pub use row::{Entry, Row};
+
+#[cfg(test)]
+mod tests;
