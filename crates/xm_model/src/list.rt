@@ -42,7 +42,7 @@ impl<T> List<T> {
     pub fn len(&self) -> usize
         ensures { result ≡ length self.now.items }
     {
-        self.held.len()
+        self.as_slice().len()
     }
 
     pub fn is_empty(&self) -> bool
