@@ -1,6 +1,6 @@
 -- Names that are met one after another.
 use Rattle.std.proofs.Common.{true≢false, inl, inr, ◌≡◌, ℕ, suc, ◌+◌, ◌<◌, Bool, true, false, cond, List, [], ◌∷◌, ◌++◌, length, get_or, map, drop, String, Global, string_bytes, refl, sym, ap, ◌∙◌, add-one, drop-cons, Option, Some, None, append_assoc, arith}
-use Rattle.std.specs.Prelude.{◌||◌, ◌&&◌, not, option_map}
+use Rattle.std.specs.Prelude.{◌&&◌, not, option_map}
 use Rattle.std.proofs.Math.Bool.{and-false, or-true}
 use Rattle.std.proofs.lemmas.Bool.{and_parts, false_from_ne_true, not-true, or_cases, or_parts}
 use Rattle.std.specs.List.{flat_map, list_all, list_any, position, position_from}
