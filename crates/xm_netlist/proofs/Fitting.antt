@@ -1,5 +1,5 @@
 -- The sizes of a draft, and those of the net that it makes.
-use Rattle.std.proofs.Common.{◌≡◌, ℕ, zero, suc, ◌+◌, ◌*◌, ◌<◌, ◌≤◌, Bool, true, false, List, [], ◌∷◌, length, Option, Some, None, refl, sym, ap, ◌∙◌, subst, arith}
+use Rattle.std.proofs.Common.{◌≡◌, ℕ, suc, ◌+◌, ◌*◌, ◌<◌, ◌≤◌, true, false, List, [], ◌∷◌, length, Option, Some, None, refl, subst, arith}
 use Rattle.std.specs.Prelude.{◌&&◌, nat_le, nat_lt, sum_by, option_map, cond}
 use Rattle.std.specs.List.{All, list_all}
 use Rattle.std.specs.Str.{bytes_eq}
@@ -9,12 +9,11 @@ use Rattle.xm_model.specs.Component.{Component, Source, Sink, Queue}
 use Rattle.xm_model.specs.Net.{FitsComponent, IsWithinLimits, Network, capacity_of, inputs, outputs}
 use Rattle.xm_model.specs.declared.parts.SourceMode.TheVariants as source_mode
 use Rattle.xm_model.specs.declared.parts.SinkMode.TheVariants as sink_mode
-use Rattle.xm_netlist.specs.Made.{net_in}
 use Rattle.xm_netlist.specs.Names.{Name, are_distinct, number_of}
 use Rattle.xm_netlist.specs.Shape.{Draft, Part, source, sink, queue}
-use Rattle.xm_netlist.specs.Sizes.{counts_fit, is_from_one_to, is_sized, part_capacity, part_fits, parts_fit, rows_fit}
+use Rattle.xm_netlist.specs.Sizes.{counts_fit, is_from_one_to, part_capacity, part_fits, parts_fit, rows_fit}
 use Rattle.xm_netlist.specs.Small.{channel_names, component_in, is_plain}
-use Rattle.xm_netlist.specs.Steps.{◌>>=◌, check, each}
+use Rattle.xm_netlist.specs.Steps.{each}
 use Rattle.xm_netlist.proofs.Finding.{bound, checked, each_all, each_length, each_passed, each_passes, each_sum}
 
 -- ---- tests

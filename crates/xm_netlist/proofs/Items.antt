@@ -13,6 +13,8 @@ pub list_of-items_view : (vs : List Value) → list_of (items_view vs) ≡ map v
 list_of-items_view [] = refl
 list_of-items_view (v ∷ vs) = ap (λ (ds : List Data). view v ∷ ds) (list_of-items_view vs)
 
+pub ruleset listed = (list_of-items_view)
+
 pub list_any-map : {X Y : Type 0} (p : Y → Bool) (f : X → Y) (xs : List X) → list_any p (map f xs) ≡ list_any (λ x. p (f x)) xs
 list_any-map p f [] = refl
 list_any-map p f (x ∷ xs) = ap (λ (b : Bool). p (f x) || b) (list_any-map p f xs)

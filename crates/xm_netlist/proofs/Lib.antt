@@ -5,4 +5,3 @@ pub mod Json
 pub mod Making
 pub mod Meeting
 pub mod Refusing
-pub mod Walk

@@ -1,26 +1,25 @@
 -- The steps by which a draft makes a document.
-use Rattle.std.proofs.Common.{◌≡◌, ◌≢◌, ℕ, ◌+◌, ◌*◌, ◌<◌, ◌≤◌, Bool, true, false, List, [], ◌∷◌, map, length, slice_get, get_or, Option, Some, None, refl, sym, ap, ◌∙◌, subst, arith, true≢false, string_bytes, String, Global}
+use Rattle.std.proofs.Common.{◌≡◌, ℕ, true, false, List, map, length, Some, None, refl, sym, ap, ◌∙◌, subst, arith, true≢false, string_bytes, String, Global}
 use Rattle.std.specs.Prelude.{◌&&◌}
-use Rattle.std.proofs.lemmas.Bool.{and_parts, false_from_ne_true}
+use Rattle.std.proofs.lemmas.Bool.{and_parts}
 use Rattle.std.proofs.lemmas.List.{length-map}
 use Rattle.std.proofs.lemmas.Option.{get_or_from_slice_get, slice_get_within}
 use Rattle.xm_model.specs.Component.{Component, component_of}
 use Rattle.xm_model.specs.Naming.{IsNamed, Naming}
-use Rattle.xm_model.specs.Net.{HasPrim, IsNet, IsFirstFault, IsWellWired, IsWithinLimits, Network, fault_at, initiators, targets, wiring_fault}
+use Rattle.xm_model.specs.Net.{IsNet, IsFirstFault, IsWellWired, IsWithinLimits, Network, fault_at}
 use Rattle.xm_model.specs.declared.parts.Choice.{Choice}
 use Rattle.xm_model.specs.declared.parts.Primitive.{Primitive}
 use Rattle.xm_model.specs.declared.parts.WiringFault.{WiringFault}
 use Rattle.xm_netlist.specs.Made.{Makes, draft_read, net_in}
-use Rattle.xm_netlist.specs.Names.{Name}
 use Rattle.xm_netlist.specs.Draft.{draft_seen, names_seen, parts_seen}
 use Rattle.xm_netlist.specs.declared.draft.Draft as code_draft
 use Rattle.xm_netlist.specs.declared.draft.Part as code_part
 use Rattle.xm_netlist.specs.Numbers.{naming_of_draft, naming_seen}
 use Rattle.xm_netlist.specs.declared.naming.Numbers.{Numbers}
-use Rattle.xm_netlist.specs.Shape.{Draft, Part, draft_in, json_of}
+use Rattle.xm_netlist.specs.Shape.{Draft}
 use Rattle.xm_netlist.specs.Sizes.{counts_fit, is_sized, parts_fit, rows_fit}
-use Rattle.xm_netlist.specs.Small.{IsPlain, IsSmall, Small, are_named, channel_names, component_in, is_plain, name_of, naming_in, small_of}
-use Rattle.xm_netlist.specs.Steps.{◌>>=◌, check, each}
+use Rattle.xm_netlist.specs.Small.{IsPlain, IsSmall, Small, are_named, channel_names, component_in, name_of, naming_in, small_of}
+use Rattle.xm_netlist.specs.Steps.{each}
 use Rattle.xm_netlist.specs.Tape.{row_in}
 use Rattle.xm_netlist.proofs.Finding.{bound, checked, each_length}
 use Rattle.xm_netlist.proofs.Fitting.{all_plain, limits_hold, limits_tested, network, rows_hold, rows_tested}

@@ -1,6 +1,6 @@
 -- Names that are met one after another.
 use Rattle.std.proofs.Common.{true≢false, inl, inr, ◌≡◌, ℕ, suc, ◌+◌, ◌<◌, Bool, true, false, cond, List, [], ◌∷◌, ◌++◌, length, get_or, map, drop, String, Global, string_bytes, refl, sym, ap, ◌∙◌, add-one, drop-cons, Option, Some, None, append_assoc, arith}
-use Rattle.std.specs.Prelude.{◌||◌, ◌&&◌, not, option_map}
+use Rattle.std.specs.Prelude.{◌&&◌, not, option_map}
 use Rattle.std.proofs.Math.Bool.{and-false, or-true}
 use Rattle.std.proofs.lemmas.Bool.{and_parts, false_from_ne_true, not-true, or_cases, or_parts}
 use Rattle.std.specs.List.{flat_map, list_all, list_any, position, position_from}
@@ -18,7 +18,9 @@ use Rattle.xm_netlist.specs.Shape.{Draft}
 use Rattle.xm_netlist.specs.Small.{channels_of, name_of, naming_in}
 use Rattle.xm_netlist.specs.Steps.{◌>>=◌, check}
 use Rattle.xm_netlist.proofs.Items.{list_any-map}
-use Rattle.xm_netlist.proofs.Walk.{cut_at}
+
+cut_at : {X : Type 0} (xs : List X) (i : ℕ) (x : X) → i < length xs → x ≡ get_or xs i x → drop i xs ≡ x ∷ drop (i + 1) xs
+cut_at {X} xs i x lt is = rw add-one (drop-cons xs i x lt ∙ ap (λ (y : X). y ∷ drop (suc i) xs) (sym is))
 
 map-cond : (b : Bool) (ks : List (String Global)) (k : String Global) → names_seen (cond b ks (ks ++ k ∷ [])) ≡ cond b (names_seen ks) (names_seen ks ++ string_bytes k ∷ [])
 map-cond true ks k = refl

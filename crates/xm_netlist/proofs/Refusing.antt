@@ -1,5 +1,5 @@
 -- What a refusal says of the step that it came from.
-use Rattle.std.proofs.Common.{◌≡◌, Option, None, Result, Ok, Err, IfOk, subst}
+use Rattle.std.proofs.Common.{◌≡◌, Option, None, Result, Err, subst}
 use Rattle.xm_netlist.specs.Gives.{Fails}
 use Rattle.xm_netlist.specs.declared.fault.DocFault.{DocFault}
 use Rattle.xm_netlist.specs.declared.fault.DocFault.TheVariants as faults
@@ -10,8 +10,3 @@ found_nothing r e f step is same refused fails = let small : e ≡ faults.NotSma
 
 pub handed_on : {X : Type 0} (r : Result X DocFault) (e f : DocFault) → r ≡ Err f → f ≡ e → r ≡ Err faults.NotSmall → e ≡ faults.NotSmall
 handed_on r e f is same refused = cc
-
--- what follows of the value, where there is one
-pub if_ok : {X E : Type 0} (r : Result X E) (P Q : X → Type 0) → ((x : X) → P x → Q x) → IfOk r P → IfOk r Q
-if_ok (Ok x) P Q then h = then x h
-if_ok (Err e) P Q then h = tt

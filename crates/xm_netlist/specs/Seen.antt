@@ -1,5 +1,5 @@
 -- A document of the code, in plain lists.
-use Rattle.std.specs.Prelude.{List, map}
+use Rattle.std.specs.Prelude.{map}
 use Rattle.xm_model.specs.Listing.{Listing}
 use Rattle.xm_model.specs.Naming.{naming_of}
 use Rattle.xm_model.specs.declared.parts.Choice.{Choice}

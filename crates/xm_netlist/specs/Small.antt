@@ -1,5 +1,5 @@
 -- Which small document the bytes are.
-use Rattle.std.specs.Prelude.{ℕ, ◌*◌, ◌≤◌, ◌≡◌, List, [], ◌∷◌, ◌++◌, map, length, Bool, true, false, ◌&&◌, Option, Some, None}
+use Rattle.std.specs.Prelude.{ℕ, ◌*◌, ◌≤◌, ◌≡◌, List, [], ◌∷◌, map, length, Bool, true, false, ◌&&◌, Option, Some}
 use Rattle.std.specs.List.{list_all, flat_map}
 use Rattle.xm_model.specs.Component.{Component, Source, Sink, Queue, Function, Fork, Join, Switch, Merge}
 use Rattle.xm_model.specs.Naming.{Naming}

@@ -1,5 +1,5 @@
 -- The rows of a written tape: one mark for each source and sink, in primitive order.
-use Rattle.std.specs.Prelude.{ℕ, ◌-◌, List, [], ◌∷◌, Bool, true, false, ◌&&◌, ◌==◌, nat_le, if◌then◌else◌, Option, Some, None, slice_get}
+use Rattle.std.specs.Prelude.{ℕ, ◌-◌, List, [], ◌∷◌, true, false, ◌&&◌, ◌==◌, nat_le, if◌then◌else◌, Option, Some, None, slice_get}
 use Rattle.xm_model.specs.Component.{Component, Source, Sink, Queue, Function, Fork, Join, Switch, Merge}
 use Rattle.xm_model.specs.declared.parts.Choice.{Choice}
 use Rattle.xm_model.specs.declared.parts.Choice.TheVariants.{Offer, Ready}

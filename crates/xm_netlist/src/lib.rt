@@ -15,3 +15,6 @@ mod tape;
 pub use document::Document;
 pub use fault::DocFault;
 pub use reading::read_document;
+
+#[cfg(test)]
+mod tests;

@@ -43,11 +43,7 @@ fn colour(names: &IndexSet<String>, name: &str) -> Result<u8, DocFault>
 }
 
 /// The numbers of the colours, in their order.
-fn colours(
-    alloc: Global,
-    known: &IndexSet<String>,
-    names: &[String],
-) -> Result<List<u8>, DocFault>
+fn colours(alloc: Global, known: &IndexSet<String>, names: &[String]) -> Result<List<u8>, DocFault>
     requires { length known.now.keys ≤ 64 }
     ensures { Gives (λ l. l.items) result (each (number_of (names_seen known.now.keys)) (names_seen names.now)) }
 {
@@ -107,11 +103,7 @@ fn component(alloc: Global, numbers: &Numbers, part: &Part) -> Result<Prim, DocF
 }
 
 /// The primitives that the parts are, in their order.
-pub fn components(
-    alloc: Global,
-    numbers: &Numbers,
-    parts: &[Part],
-) -> Result<List<Prim>, DocFault>
+pub fn components(alloc: Global, numbers: &Numbers, parts: &[Part]) -> Result<List<Prim>, DocFault>
     requires few_channels { length numbers.now.channels.keys ≤ 8192 }
     requires few_colours { length numbers.now.colours.keys ≤ 64 }
     requires fits { list_all part_fits (parts_seen parts.now) ≡ true }

@@ -58,7 +58,7 @@ fn text(alloc: Global, value: &Value) -> Result<String, DocFault>
 }
 
 fn texts(alloc: Global, values: &[Value]) -> Result<Vec<String>, DocFault>
-    ensures { Gives (λ texts. names_seen texts.items) result (each as_str (spec.list_of (items_view values.now))) }
+    ensures { Gives (λ texts. names_seen texts.items) result (each as_str (map view values.now)) }
 {
     let mut texts = Vec::new(alloc);
     for value in values {
@@ -100,9 +100,9 @@ fn items(value: &Value) -> Result<&[Value], DocFault>
 }
 
 /// The member `key`, a list.
-#[tactic(auto, unfolding(crate::specs::Shape::list_member))]
+#[tactic(auto, using(crate::proofs::Items::listed), unfolding(crate::specs::Shape::list_member))]
 fn list_member<'v>(key: &str, value: &'v Value) -> Result<&'v [Value], DocFault>
-    ensures { Gives (λ v. spec.list_of (items_view v.now)) result (spec.list_member key.now (view value.now)) }
+    ensures { Gives (λ v. map view v.now) result (spec.list_member key.now (view value.now)) }
 {
     match value.get(key) {
         Some(member) => items(member),
@@ -179,7 +179,7 @@ fn part(alloc: Global, value: &Value) -> Result<Part, DocFault>
 }
 
 fn parts(alloc: Global, values: &[Value]) -> Result<Vec<Part>, DocFault>
-    ensures { Gives (λ parts. parts_seen parts.items) result (each spec.part_in (spec.list_of (items_view values.now))) }
+    ensures { Gives (λ parts. parts_seen parts.items) result (each spec.part_in (map view values.now)) }
 {
     let mut parts = Vec::new(alloc);
     for value in values {

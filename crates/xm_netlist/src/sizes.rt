@@ -8,12 +8,19 @@ ghost use Rattle.xm_netlist.specs.Sizes as spec;
 use crate::draft::{Draft, Part};
 
 const MOST_PRIMS: usize = 4096;
+
 const MOST_CHANNELS: usize = 8192;
+
 const MOST_COLOURS: usize = 64;
+
 const MOST_SOURCE_COLOURS: usize = 36;
+
 const MOST_CAPACITY: u64 = 4096;
+
 const MOST_CAPACITIES: u64 = 1_000_000;
+
 const MOST_ROWS: usize = 1_000_000;
+
 const MOST_SIGNALS: usize = 16_000_000;
 
 fn part_fits(part: &Part) -> bool

@@ -1,14 +1,14 @@
-use Rattle.std.proofs.Common.{◌≡◌, ◌∙◌, Bool, List, String, Global, Option, Some, None, [], true, false, map, string_bytes, refl, sym, ap}
+use Rattle.std.proofs.Common.{◌≡◌, ◌∙◌, Bool, List, String, Global, Some, [], true, false, map, string_bytes, refl, sym, ap}
 use Rattle.std.specs.List.{flat_map, list_all}
 use Rattle.std.proofs.lemmas.List.Folds.{list_all-map}
 use Rattle.xm_model.specs.Naming.{Naming}
 use Rattle.xm_netlist.specs.Draft.{draft_seen, names_seen, parts_seen}
 use Rattle.xm_netlist.specs.Names.{Name, are_distinct, first_uses, is_colour_name, is_name}
-use Rattle.xm_netlist.specs.Numbers.{distinct_names, naming_of_draft}
+use Rattle.xm_netlist.specs.Numbers.{distinct_names}
 use Rattle.xm_netlist.specs.Shape.{Draft, Part}
 use Rattle.xm_netlist.specs.Small.{channel_names, channels_of, name_of, naming_in}
 use Rattle.xm_netlist.specs.declared.draft.Part as code_part
-use Rattle.xm_netlist.proofs.Meeting.{by_tests, distinct_none, distinct_some}
+use Rattle.xm_netlist.proofs.Meeting.{by_tests, distinct_some}
 use Rattle.xm_netlist.proofs.naming.numbers_of.Goals as goal
 
 -- a test of the code's texts, as a test of the names that they are

@@ -1,4 +1,4 @@
-use Rattle.std.proofs.Common.{◌≡◌, ◌∙◌, List, Err, Some, map, refl, sym, ap}
+use Rattle.std.proofs.Common.{◌∙◌, Err, map, sym, ap}
 use Rattle.std.proofs.lemmas.Result.{err_from_is_err_and}
 use Rattle.xm_model.specs.Component.{component_of}
 use Rattle.xm_model.specs.Listing.{Listing}

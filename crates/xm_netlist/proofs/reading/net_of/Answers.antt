@@ -1,10 +1,9 @@
-use Rattle.std.proofs.Common.{◌≡◌, ◌∙◌, List, Some, map, refl, sym}
+use Rattle.std.proofs.Common.{◌∙◌, map, refl, sym}
 use Rattle.std.proofs.lemmas.Result.{err_from_is_err_and}
 use Rattle.xm_model.specs.Component.{component_of}
 use Rattle.xm_netlist.specs.Draft.{draft_seen, names_seen, parts_seen}
 use Rattle.xm_netlist.specs.Small.{component_in}
 use Rattle.xm_netlist.specs.Steps.{each}
-use Rattle.xm_netlist.specs.declared.draft.Part as code
 use Rattle.xm_netlist.proofs.Making.{channel_count, colour_count, lent_step, no_prims, no_wiring, within}
 use Rattle.xm_netlist.proofs.Refusing.{found_nothing}
 use Rattle.xm_netlist.proofs.reading.net_of.Goals as goal

@@ -1,3 +1,4 @@
+use Rattle.std.proofs.lemmas.Result.{IfOk-weaker}
 use Rattle.xm_model.specs.Naming.{IsNamed, naming_of}
 use Rattle.xm_netlist.specs.Draft.{draft_seen}
 use Rattle.xm_netlist.specs.Made.{Makes}
@@ -5,15 +6,14 @@ use Rattle.xm_netlist.specs.Seen.{small_seen}
 use Rattle.xm_netlist.specs.Small.{IsPlain}
 use Rattle.xm_netlist.specs.declared.document.Document.{Document}
 use Rattle.xm_netlist.proofs.Making.{is_named, plain}
-use Rattle.xm_netlist.proofs.Refusing.{if_ok}
 use Rattle.xm_netlist.proofs.reading.read_document.Goals as goal
 
 pub returns-clause-named : goal.returns-clause-named
 returns-clause-named c =
-    if_ok c.document_of.result (λ (d : Document). Makes (draft_seen c.in_ok-draft.draft) (small_seen d)) (λ (d : Document). IsNamed d.net (naming_of d.names))
+    IfOk-weaker c.document_of.result (λ (d : Document). Makes (draft_seen c.in_ok-draft.draft) (small_seen d)) (λ (d : Document). IsNamed d.net (naming_of d.names))
     (λ d makes. is_named (draft_seen c.in_ok-draft.draft) (small_seen d) makes.made) c.document_of.ensures.ok
 
 pub returns-clause-plain : goal.returns-clause-plain
 returns-clause-plain c =
-    if_ok c.document_of.result (λ (d : Document). Makes (draft_seen c.in_ok-draft.draft) (small_seen d)) (λ (d : Document). IsPlain d.net)
+    IfOk-weaker c.document_of.result (λ (d : Document). Makes (draft_seen c.in_ok-draft.draft) (small_seen d)) (λ (d : Document). IsPlain d.net)
     (λ d makes. plain (draft_seen c.in_ok-draft.draft) (small_seen d) makes.made) c.document_of.ensures.ok

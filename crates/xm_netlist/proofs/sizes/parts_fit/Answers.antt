@@ -1,9 +1,8 @@
-use Rattle.std.proofs.Common.{◌≡◌, ◌∙◌, Bool, true, false, ℕ, List, refl, sym}
-use Rattle.std.specs.Prelude.{◌&&◌, nat_le}
+use Rattle.std.proofs.Common.{◌≡◌, ◌∙◌, Bool, true, false, List, refl, sym}
 use Rattle.std.specs.List.{list_all}
 use Rattle.std.proofs.lemmas.List.Folds.{list_all-map}
 use Rattle.xm_netlist.specs.Draft.{part_seen, parts_seen}
-use Rattle.xm_netlist.specs.Sizes.{part_fits, parts_fit}
+use Rattle.xm_netlist.specs.Sizes.{part_fits}
 use Rattle.xm_netlist.specs.declared.draft.Part as code
 use Rattle.xm_netlist.proofs.sizes.parts_fit.Goals as goal
 

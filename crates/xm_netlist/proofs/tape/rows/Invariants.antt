@@ -1,4 +1,4 @@
-use Rattle.std.proofs.Common.{◌≡◌, List, drop, map, string_bytes}
+use Rattle.std.proofs.Common.{◌≡◌, drop, map, string_bytes}
 use Rattle.xm_model.specs.Component.{component_of}
 use Rattle.xm_model.specs.Listing.{Listing}
 use Rattle.xm_model.specs.declared.parts.Choice.{Choice}
