@@ -167,11 +167,6 @@ is_done_from Unseen h = absurd (omega arith)
 is_done_from OnPath h = absurd (omega arith)
 is_done_from Done h = refl
 
-at_most_one : (mark : Mark) → mark ≢ Unseen → steps_left mark ≤ 1
-at_most_one Unseen met = absurd (met refl)
-at_most_one OnPath met = omega arith
-at_most_one Done met = omega arith
-
 met_from : (mark : Mark) → steps_left mark ≤ 1 → (mark ≢ OnPath) → mark ≡ Done
 met_from Unseen h apart = absurd (omega arith)
 met_from OnPath h apart = absurd (apart refl)
@@ -205,10 +200,7 @@ empty_from [] e = refl
 empty_from (x ∷ xs) e = absurd (omega arith)
 
 module _ (net : Network) (done path : List Signal) (marks : List Mark) (walk : IsWalkOver net done path marks) (none : path ≡ []) (σ : Signal) where
-  -- with nothing on the path, a signal that was met is done
-  pub met_done : (mark : Mark) → IsMarked marks σ mark → mark ≢ Unseen → IsMarked marks σ Done
-  met_done mark was met = was ∙ ap Some (met_from mark (at_most_one mark met) (λ e. off_path net done path marks walk none σ (was ∙ ap Some e)))
-
+  -- with nothing on the path, a signal that was on it is done
   pub entered_done : (before : List Mark) → length before ≡ 2 * net.channels → Advances before marks → IsMarked before σ OnPath → IsMarked marks σ Done
   entered_done before whole advances was = comes_done before marks advances (walk.whole ∙ sym whole) σ was (off_path net done path marks walk none σ)
 

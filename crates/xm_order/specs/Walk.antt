@@ -28,8 +28,8 @@ steps_left Done = 0
 abbrev pub all_left : List Mark → ℕ
 all_left marks = sum_by steps_left marks
 
--- those that are done stand after all on which they depend, and each of the path depends on the next; the
--- path grows by one with each step that meets a signal
+-- those that are done stand after all on which they depend, each of the path depends on the next, and the path
+-- has no more signals than steps were made
 pub record IsWalkOver (net : Network) (done path : List Signal) (marks : List Mark) : Type 0 where
   pub whole : length marks ≡ 2 * net.channels
   pub is_done : HoldsMarked marks Done done

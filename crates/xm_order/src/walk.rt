@@ -184,7 +184,8 @@ impl Walk {
 }
 
 /// An order of all signals of the net, each after those on which it depends; or a loop of the dependence,
-/// from its least signal on. Its time and memory grow with the channels and primitives alone.
+/// from its least signal on. Time and memory are linear in the channels, and the path of the walk stands on
+/// the heap.
 pub fn order(alloc: Global, net: &Net) -> Result<Order, OrderFault>
     ensures ok { IfOk result (λ order. IsOrder net.now order) }
     ensures looped { (found : _) → result ≡ Err (OrderFault.CombLoop found) → IsLoop net.now found.items }
