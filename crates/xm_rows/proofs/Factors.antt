@@ -16,8 +16,9 @@ pub gcd_fits : (a b : ℤ) (g : ℕ) → b ≢ pos 0 → Fits128 b → IsGcd (un
 gcd_fits a b g nonzero fits h = let below = le_of_dvd (abs_positive b nonzero) h.1 in omega (arith, below)
 
 -- a number over a divisor, taken that often
-back : (z : ℤ) (g : ℕ) → g ∣ unsigned_abs z → pos g *ℤ int_div z (pos g) ≡ z
-back z g h = *ℤ_comm (pos g) (int_div z (pos g)) ∙ quotient_times z (pos g) h
+back : (z d : ℤ) → pos 0 <ℤ d → unsigned_abs d ∣ unsigned_abs z → pos (unsigned_abs d) *ℤ int_div z d ≡ z
+back z (pos g) positive h = *ℤ_comm (pos g) (int_div z (pos g)) ∙ quotient_times z (pos g) h
+back z (negsuc g) positive h = absurd (omega (arith, ints))
 
 abs_up : (b : ℤ) → pos 0 ≤ℤ b → b ≡ pos (unsigned_abs b)
 abs_up (pos n) h = refl
@@ -38,24 +39,27 @@ sign_down : (b a : ℤ) → b <ℤ pos 0 → neg_ℤ a ≡ int_signum b *ℤ a
 sign_down (pos n) a h = absurd (omega (arith, ints))
 sign_down (negsuc n) a h = let one = negated (pos 1) a in let same = one_times a in omega (arith, ints)
 
-pub factors_up : (a b u v : ℤ) (g : ℕ) → b ≢ pos 0 → pos 0 ≤ℤ b → IsGcd (unsigned_abs a) (unsigned_abs b) g →
-    u ≡ int_div b (pos g) → v ≡ int_div a (pos g) → AreFactors a b u v
-factors_up a b u v g nonzero up h first second =
+pub factors_up : (a b u v d : ℤ) → b ≢ pos 0 → pos 0 ≤ℤ b → pos 0 <ℤ d → IsGcd (unsigned_abs a) (unsigned_abs b) (unsigned_abs d) →
+    u ≡ int_div b d → v ≡ int_div a d → AreFactors a b u v
+factors_up a b u v d nonzero up positive h first second =
+    let times = λ (z : ℤ). pos (unsigned_abs d) *ℤ z in
     record {
-      divisor = g;
+      divisor = unsigned_abs d;
       greatest = h;
-      first = ap (λ (z : ℤ). pos g *ℤ z) first ∙ back b g h.1 ∙ abs_up b up;
-      second = ap (λ (z : ℤ). pos g *ℤ z) second ∙ back a g h.0 ∙ sign_up b a nonzero up;
+      first = ap times first ∙ back b d positive h.1 ∙ abs_up b up;
+      second = ap times second ∙ back a d positive h.0 ∙ sign_up b a nonzero up;
     }
 
-pub factors_down : (a b u v x y : ℤ) (g : ℕ) → b <ℤ pos 0 → IsGcd (unsigned_abs a) (unsigned_abs b) g →
-    x ≡ int_div b (pos g) → y ≡ int_div a (pos g) → u ≡ neg_ℤ x → v ≡ neg_ℤ y → AreFactors a b u v
-factors_down a b u v x y g down h first second turned_x turned_y =
+pub factors_down : (a b u v x y d : ℤ) → b <ℤ pos 0 → pos 0 <ℤ d → IsGcd (unsigned_abs a) (unsigned_abs b) (unsigned_abs d) →
+    x ≡ int_div b d → y ≡ int_div a d → u ≡ neg_ℤ x → v ≡ neg_ℤ y → AreFactors a b u v
+factors_down a b u v x y d down positive h first second turned_x turned_y =
+    let g = pos (unsigned_abs d) in
+    let times = λ (z : ℤ). g *ℤ z in
     record {
-      divisor = g;
+      divisor = unsigned_abs d;
       greatest = h;
-      first = ap (λ (z : ℤ). pos g *ℤ z) (turned_x ∙ ap neg_ℤ first) ∙ times_negated (pos g) (int_div b (pos g)) ∙ ap neg_ℤ (back b g h.1) ∙ abs_down b down;
-      second = ap (λ (z : ℤ). pos g *ℤ z) (turned_y ∙ ap neg_ℤ second) ∙ times_negated (pos g) (int_div a (pos g)) ∙ ap neg_ℤ (back a g h.0) ∙ sign_down b a down;
+      first = ap times (turned_x ∙ ap neg_ℤ first) ∙ times_negated g (int_div b d) ∙ ap neg_ℤ (back b d positive h.1) ∙ abs_down b down;
+      second = ap times (turned_y ∙ ap neg_ℤ second) ∙ times_negated g (int_div a d) ∙ ap neg_ℤ (back a d positive h.0) ∙ sign_down b a down;
     }
 
 -- the divisor that the code computes is that of the numbers
