@@ -1,0 +1,47 @@
+//! The program `xmas`: a verifier and simulator of xMAS networks. It reads standard input, writes standard
+//! output, and says why it refuses on standard error.
+#![tactic(auto)]
+
+mod order;
+mod refusal;
+mod run;
+#[cfg(test)]
+mod tests;
+mod top;
+
+use crate::refusal::{Refusal, refuse};
+use std::alloc::Global;
+use std::env;
+use std::process::ExitCode;
+use xm_io::{StdSink, StdSource, Words};
+use xm_model::{List, OutOfMemory, Text};
+
+fn main(rt: HostRuntime) -> ExitCode {
+    let mut source = StdSource::new(rt.stdin());
+    let mut out = StdSink::new(rt.stdout());
+    let mut err = StdSink::new(rt.stderr());
+    let status = match words_of(&rt) {
+        Ok(words) => top::plain(rt.alloc(), &words, &mut source, &mut out, &mut err),
+        Err(OutOfMemory) => refuse(&mut err, Refusal::Memory),
+    };
+    ExitCode::from(status)
+}
+
+/// The words of the command line, without the program's name. Where the system gives none that are text,
+/// there are none.
+fn words_of<R: std::rt::Env + AllocGlobal>(rt: &R) -> Result<Words, OutOfMemory> {
+    let mut words = List::new(rt.alloc());
+    let Ok(args) = env::args(rt) else {
+        return Ok(Words { words });
+    };
+    for word in args.skip(1) {
+        words.push(text_of(rt.alloc(), word.as_str())?)?;
+    }
+    Ok(Words { words })
+}
+
+fn text_of(alloc: Global, word: &str) -> Result<Text, OutOfMemory> {
+    let mut text = Text::new(alloc);
+    text.push_bytes(word.as_bytes())?;
+    Ok(text)
+}
