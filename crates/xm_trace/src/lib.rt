@@ -7,3 +7,6 @@ mod trace;
 
 pub use text::trace_text;
 pub use trace::{Move, Trace, run_all};
+
+#[cfg(test)]
+mod tests;

@@ -110,10 +110,8 @@ fn refusals_have_their_status_and_line(rt: HostRuntime) -> Result<(), Fail> {
 /// The stream's document, with spaces behind it up to so many bytes.
 fn padded(alloc: Global, count: usize) -> Result<Text, OutOfMemory> {
     let mut text = text_of(alloc, STREAM.as_bytes())?;
-    let spaces = [b' '; 4096];
-    while text.as_bytes().len() < count {
-        let more = (count - text.as_bytes().len()).min(4096);
-        text.push_bytes(&spaces[..more])?;
+    for _ in text.as_bytes().len()..count {
+        text.push_bytes(b" ")?;
     }
     Ok(text)
 }
