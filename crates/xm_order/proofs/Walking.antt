@@ -1,5 +1,5 @@
 -- The steps of the walk.
-use Rattle.std.proofs.Common.{◌≡◌, ◌≢◌, ℕ, suc, ◌+◌, ◌-◌, ◌*◌, ◌<◌, ◌≤◌, List, [], ◌∷◌, ◌++◌, Option, Some, length, replicate, set, take, slice_get, get_or, refl, sym, ◌∙◌, ap, subst, inl, inr, arith, length-append}
+use Rattle.std.proofs.Common.{◌≡◌, ◌≢◌, ℕ, suc, ◌+◌, ◌-◌, ◌*◌, ◌<◌, ◌≤◌, List, [], ◌∷◌, ◌++◌, Some, length, replicate, set, take, slice_get, get_or, refl, sym, ◌∙◌, ap, subst, inl, inr, arith, length-append}
 use Rattle.std.proofs.lemmas.Bool.{cases_lt}
 use Rattle.std.proofs.lemmas.List.{length-replicate, length-set, take_all, take_more}
 use Rattle.std.proofs.lemmas.List.Folds.{sum_by-replicate}
@@ -67,7 +67,7 @@ module _ (net : Network) (done path : List Signal) (marks : List Mark) (walk : I
   is_path = record { distinct = walk.on_path.once; next = walk.next }
 
   -- the signals that a signal needs have their marks
-  pub needs_in_marks : IsNet net → (σ : Signal) (places : List (Option Signal)) → ListsAll (Depends net σ) places → (k : ℕ) (τ : Signal) → slice_get places k ≡ Some (Some τ) → rank τ < length marks
+  pub needs_in_marks : IsNet net → (σ : Signal) (places : List Signal) → ListsAll (Depends net σ) places → (k : ℕ) (τ : Signal) → slice_get places k ≡ Some τ → rank τ < length marks
   needs_in_marks is_net σ places lists k τ at = in_marks τ (listed_below net (counted net is_net) σ places lists k τ at)
 
   pub last_below : (last : Signal) → slice_get path (length path - 1) ≡ Some last → channel_of last < net.channels

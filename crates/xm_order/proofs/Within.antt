@@ -1,5 +1,5 @@
 -- The signals of a dependence are signals of the net's channels.
-use Rattle.std.specs.Prelude.{◌≡◌, ℕ, ◌<◌, List, Option, Some, slice_get}
+use Rattle.std.specs.Prelude.{◌≡◌, ℕ, ◌<◌, List, Some, slice_get}
 use Rattle.xm_model.specs.Component.{Component}
 use Rattle.xm_model.specs.Counted.{IsCounted, driven_below, taken_below}
 use Rattle.xm_model.specs.Net.{HasPrim, Network}
@@ -94,5 +94,5 @@ module _ (net : Network) (wired : IsCounted net) where
   needed_below σ τ d = read_below d.place d.prim τ d.has (read d.prim σ τ d.needs)
 
   -- all the signals on which a signal depends are the net's
-  pub listed_below : (σ : Signal) (places : List (Option Signal)) → ListsAll (Depends net σ) places → (k : ℕ) (τ : Signal) → slice_get places k ≡ Some (Some τ) → channel_of τ < net.channels
+  pub listed_below : (σ : Signal) (places : List Signal) → ListsAll (Depends net σ) places → (k : ℕ) (τ : Signal) → slice_get places k ≡ Some τ → channel_of τ < net.channels
   listed_below σ places lists k τ at = needed_below σ τ (lists.each k τ at)

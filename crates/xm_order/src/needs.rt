@@ -1,6 +1,6 @@
 //! The signals on which a signal depends: at most three.
 
-ghost use Rattle.std.specs.Prelude.{◌<◌};
+ghost use Rattle.std.specs.Prelude.{◌≡◌, ◌<◌, IfOk};
 ghost use Rattle.xm_model.specs.Component.{component_of};
 ghost use Rattle.xm_model.specs.Ports.{Drives, Takes};
 ghost use Rattle.xm_order.specs.Dependence.{Depends, Needs, channel_of};
@@ -8,66 +8,70 @@ ghost use Rattle.xm_order.specs.Listed.{ListsAll};
 ghost use Rattle.xm_order.specs.declared.signal.Signal.TheVariants as signal;
 
 use crate::signal::Signal;
-use xm_model::{Net, Prim};
+use smallvec::SmallVec;
+use std::alloc::Global;
+use xm_model::{Net, OutOfMemory, Prim};
+
+/// These signals, which a signal needs.
+fn listed(alloc: Global, signals: &[Signal]) -> Result<SmallVec<Signal, 3>, OutOfMemory>
+    ensures { IfOk result (λ needs. needs.items ≡ signals.now) }
+{
+    let needs = SmallVec::from_slice(alloc, signals)?;
+    Ok(needs)
+}
 
 /// The signals that the offer of a primitive on channel `c` needs.
-fn offer_needs(prim: &Prim, c: u32) -> [Option<Signal>; 3]
+fn offer_needs(alloc: Global, prim: &Prim, c: u32) -> Result<SmallVec<Signal, 3>, OutOfMemory>
     requires { Drives (component_of prim.now) c }
-    ensures { ListsAll (Needs (component_of prim.now) (signal.Offer c)) result }
+    ensures { IfOk result (λ needs. ListsAll (Needs (component_of prim.now) (signal.Offer c)) needs.items) }
 {
     match prim {
-        Prim::Source { .. } | Prim::Sink { .. } | Prim::Queue { .. } => [None, None, None],
+        Prim::Source { .. } | Prim::Sink { .. } | Prim::Queue { .. } => listed(alloc, &[]),
         Prim::Function { input, .. } | Prim::Switch { input, .. } => {
-            [Some(Signal::Offer(*input)), None, None]
+            listed(alloc, &[Signal::Offer(*input)])
         }
         Prim::Fork { input, a, b, .. } => {
             let other = if c == *a { *b } else { *a };
-            [
-                Some(Signal::Offer(*input)),
-                Some(Signal::Ready(other)),
-                None,
-            ]
+            listed(alloc, &[Signal::Offer(*input), Signal::Ready(other)])
         }
         Prim::Join { a, b, .. } | Prim::Merge { a, b, .. } => {
-            [Some(Signal::Offer(*a)), Some(Signal::Offer(*b)), None]
+            listed(alloc, &[Signal::Offer(*a), Signal::Offer(*b)])
         }
     }
 }
 
 /// The signals that the readiness of a primitive on channel `c` needs.
-fn ready_needs(prim: &Prim, c: u32) -> [Option<Signal>; 3]
+fn ready_needs(alloc: Global, prim: &Prim, c: u32) -> Result<SmallVec<Signal, 3>, OutOfMemory>
     requires { Takes (component_of prim.now) c }
-    ensures { ListsAll (Needs (component_of prim.now) (signal.Ready c)) result }
+    ensures { IfOk result (λ needs. ListsAll (Needs (component_of prim.now) (signal.Ready c)) needs.items) }
 {
     match prim {
-        Prim::Source { .. } | Prim::Sink { .. } | Prim::Queue { .. } => [None, None, None],
-        Prim::Function { out, .. } => [Some(Signal::Ready(*out)), None, None],
-        Prim::Fork { a, b, .. } => [Some(Signal::Ready(*a)), Some(Signal::Ready(*b)), None],
+        Prim::Source { .. } | Prim::Sink { .. } | Prim::Queue { .. } => listed(alloc, &[]),
+        Prim::Function { out, .. } => listed(alloc, &[Signal::Ready(*out)]),
+        Prim::Fork { a, b, .. } => listed(alloc, &[Signal::Ready(*a), Signal::Ready(*b)]),
         Prim::Join { a, b, out, .. } => {
             let other = if c == *a { *b } else { *a };
-            [Some(Signal::Ready(*out)), Some(Signal::Offer(other)), None]
+            listed(alloc, &[Signal::Ready(*out), Signal::Offer(other)])
         }
-        Prim::Switch { input, a, b, .. } => [
-            Some(Signal::Offer(*input)),
-            Some(Signal::Ready(*a)),
-            Some(Signal::Ready(*b)),
-        ],
-        Prim::Merge { a, b, out } => [
-            Some(Signal::Offer(*a)),
-            Some(Signal::Offer(*b)),
-            Some(Signal::Ready(*out)),
-        ],
+        Prim::Switch { input, a, b, .. } => listed(
+            alloc,
+            &[Signal::Offer(*input), Signal::Ready(*a), Signal::Ready(*b)],
+        ),
+        Prim::Merge { a, b, out } => listed(
+            alloc,
+            &[Signal::Offer(*a), Signal::Offer(*b), Signal::Ready(*out)],
+        ),
     }
 }
 
 /// The signals on which `it` depends.
-pub fn needs_of(net: &Net, it: Signal) -> [Option<Signal>; 3]
+pub fn needs_of(alloc: Global, net: &Net, it: Signal) -> Result<SmallVec<Signal, 3>, OutOfMemory>
     requires { channel_of it < net.now.channels }
-    ensures { ListsAll (Depends net.now it) result }
+    ensures { IfOk result (λ needs. ListsAll (Depends net.now it) needs.items) }
 {
     let _channels = net.channels();
     match it {
-        Signal::Offer(c) => offer_needs(net.prim(net.initiator(c)), c),
-        Signal::Ready(c) => ready_needs(net.prim(net.target(c)), c),
+        Signal::Offer(c) => offer_needs(alloc, net.prim(net.initiator(c)), c),
+        Signal::Ready(c) => ready_needs(alloc, net.prim(net.target(c)), c),
     }
 }

@@ -11,6 +11,18 @@ pub enum Signal {
     Ready(u32),
 }
 
+/// The default is the offer of channel 0. It fills the free places of a short list.
+impl Default for Signal {
+    ghost use Rattle.std.specs.Prelude.{◌≡◌};
+    ghost use Rattle.xm_order.specs.declared.signal.Signal.TheVariants as signal;
+
+    ghost is_default = { λ it. it ≡ signal.Offer 0 };
+
+    fn default() -> Signal {
+        Signal::Offer(0)
+    }
+}
+
 /// The place of a signal in the order offer 0, ready 0, offer 1, and so on.
 pub fn place(it: Signal) -> usize
     ensures { result ≡ rank it }

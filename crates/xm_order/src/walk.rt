@@ -75,17 +75,15 @@ impl Walk {
     }
 
     /// The first of these signals that is not done.
-    fn first_undone(&self, needs: &[Option<Signal>]) -> Option<Signal>
-        requires { (k : ℕ) (τ : _) → slice_get needs.now k ≡ Some (Some τ) → rank τ < length self.now.marks.items }
-        ensures none { IfNone result ((k : ℕ) (τ : _) → slice_get needs.now k ≡ Some (Some τ) → IsMarked self.now.marks.items τ mark.Done) }
-        ensures some { IfSome result (λ τ. (k : ℕ) × (slice_get needs.now k ≡ Some (Some τ))) }
+    fn first_undone(&self, needs: &[Signal]) -> Option<Signal>
+        requires { (k : ℕ) (τ : _) → slice_get needs.now k ≡ Some τ → rank τ < length self.now.marks.items }
+        ensures none { IfNone result ((k : ℕ) (τ : _) → slice_get needs.now k ≡ Some τ → IsMarked self.now.marks.items τ mark.Done) }
+        ensures some { IfSome result (λ τ. (k : ℕ) × (slice_get needs.now k ≡ Some τ)) }
         ensures undone { IfSome result (λ τ. ¬ (IsMarked self.now.marks.items τ mark.Done)) }
     {
         for need in needs {
-            if let Some(it) = need {
-                if self.mark(*it) != Mark::Done {
-                    return Some(*it);
-                }
+            if self.mark(*need) != Mark::Done {
+                return Some(*need);
             }
         }
         None
@@ -131,8 +129,8 @@ impl Walk {
     {
         let _channels = net.channels();
         let last = self.last();
-        let needs = needs_of(net, last);
-        match self.first_undone(&needs) {
+        let needs = needs_of(alloc, net, last)?;
+        match self.first_undone(needs.as_slice()) {
             None => self.finish(last)?,
             Some(next) => match self.mark(next) {
                 Mark::OnPath => {

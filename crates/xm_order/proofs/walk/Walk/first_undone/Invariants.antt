@@ -5,4 +5,4 @@ use Rattle.xm_order.specs.declared.walk.Mark.TheVariants.{Done}
 use Rattle.xm_order.proofs.walk.Walk.first_undone.Given as goal
 
 abbrev pub invariant-loop-need : goal.invariant-loop-need
-invariant-loop-need l = (k : ℕ) (τ : Signal) → k < l.need-index → slice_get l.needs k ≡ Some (Some τ) → IsMarked l.self.marks.items τ Done
+invariant-loop-need l = (k : ℕ) (τ : Signal) → k < l.need-index → slice_get l.needs k ≡ Some τ → IsMarked l.self.marks.items τ Done
