@@ -1,12 +1,16 @@
 //! The run of a source, a queue and a sink.
 
+ghost use Rattle.std.specs.Prelude.{◌≡◌, length, IfOk};
+
 use crate::{Move, run_all, trace_text};
 use std::alloc::Global;
 use std::test::Fail;
 use xm_model::{Choice, List, Names, Net, OutOfMemory, Prim, SinkMode, SourceMode, Text};
 use xm_order::order;
 
-fn list_of(alloc: Global, text: &[u8]) -> Result<List<Text>, OutOfMemory> {
+fn list_of(alloc: Global, text: &[u8]) -> Result<List<Text>, OutOfMemory>
+    ensures { IfOk result (λ names. length names.items ≡ 1) }
+{
     let mut name = Text::new(alloc);
     name.push_bytes(text)?;
     let mut names = List::new(alloc);
