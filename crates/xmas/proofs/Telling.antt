@@ -1,5 +1,5 @@
 -- What was written of a text, whole or a front of it.
-use Rattle.std.proofs.Common.{◌≡◌, ℕ, ◌≤◌, List, length, take, Option, Some, None, refl, arith, subst, sym, Result, Ok, Err}
+use Rattle.std.proofs.Common.{ℕ, List, length, Option, arith, subst, sym, Result, Ok, Err}
 use Rattle.std.proofs.lemmas.List.{take_all}
 use Rattle.std.specs.Prelude.{OnErr, OnOk}
 use Rattle.std.specs.Io.KnownBytes.{Appends}

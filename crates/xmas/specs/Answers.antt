@@ -1,5 +1,5 @@
 -- What the program answers: its words, its statuses with their lines of error, and its output.
-use Rattle.std.specs.Prelude.{◌≡◌, ℕ, ◌<◌, List, [], ◌∷◌, ◌||◌, ◌==◌, Bool, false, codes}
+use Rattle.std.specs.Prelude.{◌≡◌, ℕ, ◌≤◌, List, [], ◌∷◌, ◌||◌, ◌==◌, Bool, false, codes, length}
 use Rattle.std.specs.Str.{bytes_eq}
 use Rattle.std.specs.declared.option.Option.{Option}
 use Rattle.std.specs.Io.KnownBytes.{Appends}
@@ -41,26 +41,29 @@ pub record IsOutput (bytes text : List ℕ) : Type 0 where
   pub small : IsSmall bytes document
   pub run : IsTextOfRun document.net document.names document.rows text
 
--- The source was read to its end, and the output for its bytes was appended whole.
-pub record Prints (old new held now : Option (List ℕ)) : Type 0 where
+-- The source was read to its end, within the limit, and the output for its bytes was appended whole.
+pub record Prints (limit : ℕ) (old new held now : Option (List ℕ)) : Type 0 where
   pub bytes : List ℕ
   pub text : List ℕ
   pub whole : ReadsWhole old new bytes
+  pub within : length bytes ≤ limit
   pub output : IsOutput bytes text
   pub appended : Appends held now text
 
--- The source was read to its end, and a front of the output for its bytes was appended.
-pub record PrintsFront (old new held now : Option (List ℕ)) : Type 0 where
+-- The source was read to its end, within the limit, and a front of the output for its bytes was appended.
+pub record PrintsFront (limit : ℕ) (old new held now : Option (List ℕ)) : Type 0 where
   pub bytes : List ℕ
   pub text : List ℕ
   pub whole : ReadsWhole old new bytes
+  pub within : length bytes ≤ limit
   pub output : IsOutput bytes text
   pub appended : AppendsFront held now text
 
--- The source was read to its end, and its bytes are no small document.
-pub record IsRefused (old new : Option (List ℕ)) : Type 0 where
+-- The source was read to its end, within the limit, and its bytes are no small document.
+pub record IsRefused (limit : ℕ) (old new : Option (List ℕ)) : Type 0 where
   pub bytes : List ℕ
   pub whole : ReadsWhole old new bytes
+  pub within : length bytes ≤ limit
   pub not_small : (document : Small) → IsSmall bytes document → ⊥
 
 -- The status has a refusal, whose line of error was appended as far as the sink took it.

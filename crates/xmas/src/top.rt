@@ -1,7 +1,7 @@
 //! The top call.
 
 ghost use Rattle.std.specs.Prelude.{◌≡◌, ◌≢◌, ◌↔◌, ◌⊎◌, ◌≤◌, ℕ, List, length, true, false, Some};
-ghost use Rattle.xm_io.specs.Bytes.{TakesMoreThan};
+ghost use Rattle.xm_io.specs.Bytes.{TakesAtMost, TakesMoreThan};
 ghost use Rattle.xm_io.specs.Causes.{Rose};
 ghost use Rattle.xm_model.specs.Naming.{texts_of};
 ghost use Rattle.xm_netlist.specs.Small.{IsSmall, Small};
@@ -36,12 +36,14 @@ pub fn plain<S: Source, K: Sink, E: Sink>(
     err: &mut E,
 ) -> u8
     ensures words { (result ≡ 2) ↔ (are_words (texts_of words.now.words.items) ≡ false) }
-    ensures document { result ≡ 3 → IsRefused (S.left source.old) (S.left source.new) }
+    ensures unread { result ≡ 2 → source.new ≡ source.old }
+    ensures document { result ≡ 3 → IsRefused LIMIT (S.left source.old) (S.left source.new) }
     ensures read { result ≡ 6 → Rose (S.faults source.old) (S.faults source.new) }
+    ensures read_within { result ≡ 6 → TakesAtMost LIMIT (S.left source.old) (S.left source.new) }
     ensures too_long { result ≡ 10 → TakesMoreThan LIMIT (S.left source.old) (S.left source.new) }
-    ensures written { result ≡ 0 → Prints (S.left source.old) (S.left source.new) (K.held out.old) (K.held out.new) }
+    ensures written { result ≡ 0 → Prints LIMIT (S.left source.old) (S.left source.new) (K.held out.old) (K.held out.new) }
     ensures write { result ≡ 7 → Rose (K.faults out.old) (K.faults out.new) }
-    ensures front { result ≡ 7 → PrintsFront (S.left source.old) (S.left source.new) (K.held out.old) (K.held out.new) }
+    ensures front { result ≡ 7 → PrintsFront LIMIT (S.left source.old) (S.left source.new) (K.held out.old) (K.held out.new) }
     ensures quiet { result ≢ 0 → result ≢ 7 → out.new ≡ out.old }
     ensures known { is_status result ≡ true }
     ensures complete { (bytes : List ℕ) (document : Small) → S.left source.old ≡ Some bytes
