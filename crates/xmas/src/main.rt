@@ -9,6 +9,8 @@ mod run;
 mod tests;
 mod top;
 
+ghost use Rattle.std.specs.Prelude.{◌≡◌, IfOk};
+
 use crate::refusal::{Refusal, refuse};
 use std::alloc::Global;
 use std::env;
@@ -40,7 +42,9 @@ fn words_of<R: std::rt::Env + AllocGlobal>(rt: &R) -> Result<Words, OutOfMemory>
     Ok(Words { words })
 }
 
-fn text_of(alloc: Global, word: &str) -> Result<Text, OutOfMemory> {
+fn text_of(alloc: Global, word: &str) -> Result<Text, OutOfMemory>
+    ensures { IfOk result (λ text. text.items ≡ word.now) }
+{
     let mut text = Text::new(alloc);
     text.push_bytes(word.as_bytes())?;
     Ok(text)
