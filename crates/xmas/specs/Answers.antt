@@ -4,7 +4,10 @@ use Rattle.std.specs.Str.{bytes_eq}
 use Rattle.std.specs.declared.option.Option.{Option}
 use Rattle.std.specs.Io.KnownBytes.{Appends}
 use Rattle.xm_io.specs.Bytes.{AppendsFront, ReadsWhole}
+use Rattle.xm_model.specs.Net.{Network}
 use Rattle.xm_netlist.specs.Small.{IsSmall, Small}
+use Rattle.xm_order.specs.Dependence.{IsOrder}
+use Rattle.xm_order.specs.declared.signal.Signal.{Signal}
 use Rattle.xm_trace.specs.Text.{IsTextOfRun}
 use Rattle.xmas.specs.declared.refusal.Refusal.{Refusal}
 use Rattle.xmas.specs.declared.refusal.Refusal.TheVariants as refusal
@@ -35,10 +38,15 @@ line_of refusal.TooLong = codes "too long\n"
 abbrev pub is_status : ℕ → Bool
 is_status n = (n == 0) || (n == 2) || (n == 3) || (n == 6) || (n == 7) || (n == 9) || (n == 10)
 
--- the bytes are a small document, and the text is that of the run of its tape
+-- the net has an order of its signals, so that each tape has exactly one run
+abbrev pub HasOrder : Network → Type 0
+HasOrder net = (signals : List Signal) × IsOrder net signals
+
+-- the bytes are a small document, whose net has an order, and the text is that of the run of its tape
 pub record IsOutput (bytes text : List ℕ) : Type 0 where
   pub document : Small
   pub small : IsSmall bytes document
+  pub ordered : HasOrder document.net
   pub run : IsTextOfRun document.net document.names document.rows text
 
 -- The source was read to its end, within the limit, and the output for its bytes was appended whole.

@@ -5,7 +5,7 @@ ghost use Rattle.xm_io.specs.Causes.{Rose};
 ghost use Rattle.xm_model.specs.Naming.{IsNamed, naming_of};
 ghost use Rattle.xm_netlist.specs.Small.{IsPlain, IsSmall, Small};
 ghost use Rattle.xm_trace.specs.Text.{IsTextOfRun};
-ghost use Rattle.xmas.specs.Answers.{IsOutput};
+ghost use Rattle.xmas.specs.Answers.{HasOrder, IsOutput};
 
 use crate::order::plain_order;
 use crate::refusal::Refusal;
@@ -19,7 +19,8 @@ fn text_of(alloc: Global, document: &Document) -> Result<Text, OutOfMemory>
     requires plain { IsPlain document.now.net }
     requires named { IsNamed document.now.net (naming_of document.now.names) }
     requires few { length document.now.rows.items < 2 ^ 32 }
-    ensures { IfOk result (λ text. IsTextOfRun document.now.net (naming_of document.now.names) (map (λ row. row.items) document.now.rows.items) text.items) }
+    ensures ordered { IfOk result (λ _. HasOrder document.now.net) }
+    ensures text { IfOk result (λ text. IsTextOfRun document.now.net (naming_of document.now.names) (map (λ row. row.items) document.now.rows.items) text.items) }
 {
     let _channels = document.net.channels();
     let order = plain_order(alloc, &document.net)?;
