@@ -1,5 +1,5 @@
--- Names: their form, that they differ, and the numbers that stand for them.
-use Rattle.std.specs.Prelude.{ℕ, suc, List, [], ◌∷◌, ◌++◌, Bool, true, not, ◌&&◌, ◌||◌, ◌==◌, nat_lt, nat_le, length, if◌then◌else◌, Option, Some, None, option_map}
+-- Names: their form, and the numbers that stand for them.
+use Rattle.std.specs.Prelude.{ℕ, suc, List, [], ◌∷◌, ◌++◌, Bool, ◌&&◌, ◌||◌, ◌==◌, nat_lt, nat_le, length, if◌then◌else◌}
 use Rattle.std.specs.List.{list_all, list_any}
 use Rattle.std.specs.Str.{bytes_eq}
 
@@ -23,16 +23,16 @@ is_name n = nat_lt 0 (length n) && nat_le (length n) 32 && list_all is_name_byte
 abbrev pub is_colour_name : Name → Bool
 is_colour_name n = nat_lt 0 (length n) && nat_le (length n) 32 && list_all is_word_byte n
 
-abbrev pub are_distinct : List Name → Bool
-are_distinct [] = true
-are_distinct (n ∷ ns) = not (list_any (bytes_eq n) ns) && are_distinct ns
+-- the name is among these
+abbrev pub is_among : List Name → Name → Bool
+is_among names n = list_any (bytes_eq n) names
 
 -- the names in the order of their first uses, after those that were seen
 abbrev pub first_uses : List Name → List Name → List Name
 first_uses seen [] = seen
-first_uses seen (n ∷ ns) = first_uses (if list_any (bytes_eq n) seen then seen else seen ++ n ∷ []) ns
+first_uses seen (n ∷ ns) = first_uses (if is_among seen n then seen else seen ++ n ∷ []) ns
 
--- the number of a name: its place among the names
-abbrev pub number_of : List Name → Name → Option ℕ
-number_of [] n = None
-number_of (m ∷ ms) n = if bytes_eq n m then Some 0 else option_map suc (number_of ms n)
+-- the number of a name: its place among the names (their count, where it is none of them)
+abbrev pub number_in : List Name → Name → ℕ
+number_in [] n = 0
+number_in (m ∷ ms) n = if bytes_eq n m then 0 else suc (number_in ms n)

@@ -1,12 +1,15 @@
-//! What a small document is to a program.
+//! What a document is to a program.
 
-use xm_model::{Choice, List, Names, Net};
+use serde_json::Value;
+use xm_model::{Allow, List, Names, Net};
 
-/// A small document: its net, the names of what it numbers, and the choices of its tape, cycle by cycle.
-/// A row has one choice for each source and sink, in primitive order.
+/// A document: its net, the names of what it numbers, the only colours that channels may have, and the
+/// tape and the proof, which other readers look at.
 #[derive(Drop)]
 pub struct Document {
     pub net: Net,
     pub names: Names,
-    pub rows: List<List<Choice>>,
+    pub allow: List<Allow>,
+    pub tape: Option<Value>,
+    pub proof: Option<Value>,
 }

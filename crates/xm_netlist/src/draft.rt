@@ -1,29 +1,81 @@
-//! A small document by its names, before they are numbered.
+//! A document by its names, before they are numbered.
 
-/// A primitive by its names.
+use xm_model::{Side, SinkMode, SourceMode};
+
+/// A member of a map: a colour, and the colour that it becomes.
 #[derive(Drop)]
-pub enum Part {
+pub struct Image {
+    pub colour: String,
+    pub image: String,
+}
+
+/// A primitive of a kind; its ports are named by their channels, and its lists and maps by colours.
+#[derive(Drop)]
+pub enum Form {
     Source {
-        name: String,
         out: String,
         colours: Vec<String>,
+        mode: SourceMode,
     },
     Sink {
-        name: String,
         input: String,
+        mode: SinkMode,
     },
     Queue {
-        name: String,
         input: String,
         out: String,
         capacity: u64,
+        packets: Vec<String>,
+    },
+    Function {
+        input: String,
+        out: String,
+        table: Vec<Image>,
+    },
+    Fork {
+        input: String,
+        a: String,
+        b: String,
+        table_a: Vec<Image>,
+        table_b: Vec<Image>,
+    },
+    Join {
+        a: String,
+        b: String,
+        out: String,
+        pass: Side,
+    },
+    Switch {
+        input: String,
+        a: String,
+        b: String,
+        to_a: Vec<String>,
+    },
+    Merge {
+        a: String,
+        b: String,
+        out: String,
     },
 }
 
-/// A small document by its names: the rows of its tape are texts.
+/// A primitive by its names.
+#[derive(Drop)]
+pub struct Part {
+    pub name: String,
+    pub form: Form,
+}
+
+/// A channel with the only colours that it may have.
+#[derive(Drop)]
+pub struct Allowing {
+    pub channel: String,
+    pub colours: Vec<String>,
+}
+
+/// A document by its names.
 #[derive(Drop)]
 pub struct Draft {
     pub colours: Vec<String>,
     pub parts: Vec<Part>,
-    pub rows: Vec<String>,
+    pub allow: Vec<Allowing>,
 }

@@ -1,14 +1,37 @@
-//! Why a document was not read.
+//! Why bytes are no document.
 
 ghost use Rattle.std.specs.Prelude.{◌≡◌};
 ghost use Rattle.xm_netlist.specs.declared.fault.DocFault.TheVariants as faults;
 
 use std::alloc::{AllocError, AllocFailed};
+use xm_model::{Names, Text, WiringFault};
 
-/// Why a document was not read: its bytes are no small document, or there was no memory to read them.
+/// What is out of its limits: the colours, the primitives or the channels of a net, the colours of a
+/// source, the capacity of a queue, the sum of all capacities, the first packets of a queue.
 #[derive(Clone, Copy, PartialEq, Eq, Debug)]
+pub enum Which {
+    Colours,
+    Primitives,
+    Channels,
+    SourceColours,
+    Capacity,
+    CapacitySum,
+    Initial,
+}
+
+/// The first fault of a document. A path is made of member names and list places joined by dots, and that
+/// of the root is `-`. `Limit` tells the count that is out of its limits. `Wiring` comes with the names of
+/// the net, so that its channel and primitives can be named.
+#[derive(Drop)]
 pub enum DocFault {
-    NotSmall,
+    NotJson,
+    Shape(Text),
+    UnknownKind(Text),
+    UnknownColour(Text),
+    BadName(Text),
+    SameName(Text),
+    Limit(Which, u64),
+    Wiring(WiringFault, Names),
     OutOfMemory,
 }
 

@@ -4,7 +4,7 @@ use Rattle.std.proofs.lemmas.Option.{slice_get-get_or}
 use Rattle.std.proofs.Common.{get_or}
 use Rattle.xm_model.specs.Component.{Component, Source, Sink, Queue, Function, Fork, Join, Switch, Merge}
 use Rattle.xm_model.specs.Net.{Network}
-use Rattle.xm_netlist.specs.Small.{IsPlain, is_plain}
+use Rattle.xm_small.specs.Small.{IsPlain, is_plain}
 use Rattle.xm_order.specs.Dependence.{Depends, Needs}
 use Rattle.xm_order.specs.Loop.{IsLoop}
 use Rattle.xm_order.specs.declared.signal.Signal.{Signal}

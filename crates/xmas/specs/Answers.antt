@@ -5,7 +5,7 @@ use Rattle.std.specs.declared.option.Option.{Option}
 use Rattle.std.specs.Io.KnownBytes.{Appends}
 use Rattle.xm_io.specs.Bytes.{AppendsFront, ReadsWhole}
 use Rattle.xm_model.specs.Net.{Network}
-use Rattle.xm_netlist.specs.Small.{IsSmall, Small}
+use Rattle.xm_small.specs.Small.{IsSmall, Small}
 use Rattle.xm_order.specs.Dependence.{IsOrder}
 use Rattle.xm_order.specs.declared.signal.Signal.{Signal}
 use Rattle.xm_trace.specs.Text.{IsTextOfRun}

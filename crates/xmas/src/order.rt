@@ -1,7 +1,7 @@
 //! An order of all signals where none depends on another.
 
 ghost use Rattle.std.specs.Prelude.{IfOk};
-ghost use Rattle.xm_netlist.specs.Small.{IsPlain};
+ghost use Rattle.xm_small.specs.Small.{IsPlain};
 ghost use Rattle.xm_order.specs.Dependence.{IsOrder};
 
 use std::alloc::Global;

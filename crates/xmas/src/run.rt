@@ -3,7 +3,7 @@
 ghost use Rattle.std.specs.Prelude.{◌≡◌, ◌≢◌, ◌⊎◌, ◌^◌, ◌<◌, length, map, IfOk};
 ghost use Rattle.xm_io.specs.Causes.{Rose};
 ghost use Rattle.xm_model.specs.Naming.{IsNamed, naming_of};
-ghost use Rattle.xm_netlist.specs.Small.{IsPlain, IsSmall, Small};
+ghost use Rattle.xm_small.specs.Small.{IsPlain, IsSmall, Small};
 ghost use Rattle.xm_trace.specs.Text.{IsTextOfRun};
 ghost use Rattle.xmas.specs.Answers.{HasOrder, IsOutput};
 
@@ -11,7 +11,7 @@ use crate::order::plain_order;
 use crate::refusal::Refusal;
 use std::alloc::Global;
 use xm_model::{OutOfMemory, Text};
-use xm_netlist::{DocFault, Document, read_document};
+use xm_small::{DocFault, Document, read_document};
 use xm_trace::{run_all, trace_text};
 
 /// The text of the run of the document's tape.

@@ -4,7 +4,7 @@ ghost use Rattle.std.specs.Prelude.{◌≡◌, ◌≢◌, ◌↔◌, ◌⊎◌, 
 ghost use Rattle.xm_io.specs.Bytes.{TakesAtMost, TakesMoreThan};
 ghost use Rattle.xm_io.specs.Causes.{Rose};
 ghost use Rattle.xm_model.specs.Naming.{texts_of};
-ghost use Rattle.xm_netlist.specs.Small.{IsSmall, Small};
+ghost use Rattle.xm_small.specs.Small.{IsSmall, Small};
 ghost use Rattle.xmas.specs.Answers.{IsRefused, Prints, PrintsFront, Tells, TellsWhole, are_words, is_status};
 
 use crate::refusal::{Refusal, refuse};

@@ -1,0 +1,12 @@
+pub mod Draft
+pub mod Gives
+pub mod Made
+pub mod Names
+pub mod Numbers
+pub mod Seen
+pub mod Shape
+pub mod Sizes
+pub mod Small
+pub mod Steps
+pub mod Tape
+pub mod Walk
