@@ -2,4 +2,6 @@ pub mod Allowing
 pub mod Cuts
 pub mod Family
 pub mod Pairs
+pub mod Refusing
+pub mod Spreading
 pub mod Words

@@ -1,0 +1,27 @@
+use Rattle.std.proofs.Common.{◌≡◌, List, length, map, ap, sym, ◌∙◌, arith}
+use Rattle.xm_colours.proofs.Spreading.{fits_given, given_more, prim_at, prim_within, seeded}
+use Rattle.xm_model.specs.Component.{component_of}
+use Rattle.xm_model.specs.declared.parts.Primitive.{Primitive}
+use Rattle.xm_colours.proofs.spread.Spread.seed_all.Goals as goal
+
+pub loop-prim-init : goal.loop-prim-init
+loop-prim-init c = record { spread = c.requires; given = λ i m below has it h. absurd (omega arith) }
+
+pub seed-requires : goal.seed-requires
+seed-requires c =
+    let same = ap (map component_of) c.as_slice-prim-items.ensures ∙ c.prims.ensures.prims in
+    fits_given c.args.net.now c.channels-channels.ensures.net c.loop-prim.prim-index _ (prim_at c.args.net.now c.as_slice-prim-items.result.now c.loop-prim.prim-index c.prim-item.result same c.loop-prim-test.true c.prim-item.is) _ c.loop-prim.invariant.spread.whole
+
+pub loop-prim-preserved : goal.loop-prim-preserved
+loop-prim-preserved c =
+    let same = ap (map component_of) c.as_slice-prim-items.ensures ∙ c.prims.ensures.prims in
+    let has = prim_at c.args.net.now c.as_slice-prim-items.result.now c.loop-prim.prim-index c.prim-item.result same c.loop-prim-test.true c.prim-item.is in
+    record {
+      spread = seeded c.args.net.now c.channels-channels.ensures.net _ _ _ _ c.loop-prim.invariant.spread c.loop-prim.prim-index _ has c.in_ok-seed.ensures;
+      given = given_more c.args.net.now c.channels-channels.ensures.net _ _ _ _ c.loop-prim.invariant.spread c.loop-prim.prim-index _ has c.in_ok-seed.ensures c.loop-prim.invariant.given;
+    }
+
+pub returns-clause-given : goal.returns-clause-given
+returns-clause-given c i m below has it h =
+    let same = ap (map component_of) c.as_slice-prim-items.ensures ∙ c.prims.ensures.prims in
+    c.loop-prim.invariant.given i m (prim_within c.args.net.now c.as_slice-prim-items.result.now c.loop-prim.prim-index i same c.loop-prim-test.false below) has it h

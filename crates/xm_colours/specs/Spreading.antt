@@ -1,0 +1,92 @@
+-- Inner: how far the spread of colours has come. No public clause cites these.
+use Rattle.std.specs.Prelude.{◌≡◌, ◌⊎◌, ℕ, ◌+◌, ◌*◌, ◌<◌, ◌≤◌, ◌==◌, cond, List, [], ◌∷◌, length, map, slice_index}
+use Rattle.xm_colours.specs.Family.{IsLeast, colours_at}
+use Rattle.xm_colours.specs.Words.{Has, lacking, sets_of}
+use Rattle.xm_colours.specs.declared.images.Pair.{Pair}
+use Rattle.xm_colours.specs.declared.spread.Spread.{Spread}
+use Rattle.xm_model.specs.Component.{Component, Fork, Function, Join, Merge, Queue, Sink, Source, Switch}
+use Rattle.xm_model.specs.Net.{HasPrim, Network}
+use Rattle.xm_model.specs.Owner.{In}
+use Rattle.xm_model.specs.Ports.{Takes}
+use Rattle.xm_model.specs.Signals.{at_side, takes_a}
+
+abbrev pub pair : ℕ → ℕ → Pair
+pair c d = record { channel = c; colour = d }
+
+-- what a primitive makes of a colour that comes in on one of its inputs
+abbrev pub sent : Component → Pair → List Pair
+sent (Source out cs mode) it = []
+sent (Sink input mode) it = []
+sent (Queue input out capacity initial) it = pair out it.colour ∷ []
+sent (Function input out table) it = pair out (slice_index table it.colour) ∷ []
+sent (Fork input a b ta tb) it = pair a (slice_index ta it.colour) ∷ pair b (slice_index tb it.colour) ∷ []
+sent (Join a b out pass) it = cond (at_side pass a b == it.channel) (pair out it.colour ∷ []) []
+sent (Switch input a b to_a) it = cond (takes_a to_a it.colour) (pair a it.colour ∷ []) (pair b it.colour ∷ [])
+sent (Merge a b out) it = pair out it.colour ∷ []
+
+-- what it brings by itself
+abbrev pub given : Component → List Pair
+given (Source out cs mode) = map (pair out) cs
+given (Sink input mode) = []
+given (Queue input out capacity initial) = map (pair out) initial
+given (Function input out table) = []
+given (Fork input a b ta tb) = []
+given (Join a b out pass) = []
+given (Switch input a b to_a) = []
+given (Merge a b out) = []
+
+-- its tables tell what becomes of the colour
+abbrev pub Covers : Component → ℕ → Type 0
+Covers (Source out cs mode) d = Unit {0}
+Covers (Sink input mode) d = Unit {0}
+Covers (Queue input out capacity initial) d = Unit {0}
+Covers (Function input out table) d = d < length table
+Covers (Fork input a b ta tb) d = (d < length ta) × (d < length tb)
+Covers (Join a b out pass) d = Unit {0}
+Covers (Switch input a b to_a) d = d < length to_a
+Covers (Merge a b out) d = Unit {0}
+
+-- each of these pairs is of the first n channels and of 64 colours
+abbrev pub Fit : List Pair → ℕ → Type 0
+Fit ps n = (it : Pair) → In it ps → (it.channel < n) × (it.colour < 64)
+
+-- the sets have each pair
+abbrev pub HasAll : List ℕ → List Pair → Type 0
+HasAll words ps = (it : Pair) → In it ps → Has words it.channel it.colour
+
+-- the pairs came to the sets, those that were new are pending, and nothing else changed
+pub record AddsOver (ps : List Pair) (words : List ℕ) (pending : List Pair) (new_words : List ℕ) (new_pending : List Pair) : Type 0 where
+  pub whole : length new_words ≡ length words
+  pub kept : (c d : ℕ) → Has words c d → Has new_words c d
+  pub added : HasAll new_words ps
+  pub only : (c d : ℕ) → Has new_words c d → Has words c d ⊎ In (pair c d) ps
+  pub waits : (c d : ℕ) → Has new_words c d → Has words c d ⊎ In (pair c d) new_pending
+  pub still : (it : Pair) → In it pending → In it new_pending
+  pub new : (it : Pair) → In it new_pending → In it pending ⊎ In it ps
+  pub same : lacking new_words + length new_pending ≡ lacking words + length pending
+
+abbrev pub Adds : List Pair → Spread → Spread → Type 0
+Adds ps before after = AddsOver ps before.words.items before.pending.items after.words.items after.pending.items
+
+-- the pair went on through the primitive that takes it
+abbrev pub IsPassed : Network → List ℕ → ℕ → ℕ → Type 0
+IsPassed net words c d = (i : ℕ) (m : Component) → HasPrim net i m → Takes m c → HasAll words (sent m (pair c d))
+
+-- the sets lie within each closed family, and each of their pairs is pending or went on
+pub record IsSpreadOver (net : Network) (words : List ℕ) (pending : List Pair) : Type 0 where
+  pub whole : length words ≡ net.channels
+  pub colours : (c d : ℕ) → Has words c d → d < net.colours
+  pub least : IsLeast net (colours_at (sets_of words))
+  pub has : HasAll words pending
+  pub passed : (c d : ℕ) → Has words c d → In (pair c d) pending ⊎ IsPassed net words c d
+  pub short : lacking words + length pending ≤ 64 * net.channels
+
+abbrev pub IsSpread : Network → Spread → Type 0
+IsSpread net spread = IsSpreadOver net spread.words.items spread.pending.items
+
+-- the sets have what each of the first primitives brings
+abbrev pub HasGiven : Network → ℕ → List ℕ → Type 0
+HasGiven net n words = (i : ℕ) (m : Component) → i < n → HasPrim net i m → HasAll words (given m)
+
+abbrev pub work_left : Spread → ℕ
+work_left spread = lacking spread.words.items + length spread.pending.items

@@ -1,0 +1,86 @@
+//! The sets of colours of all channels.
+
+ghost use Rattle.std.specs.Prelude.{◌≡◌};
+
+use crate::word::{contains, count_below};
+use std::marker::Model;
+use xm_model::List;
+
+/// The colours of each channel, as the least closed family of sets.
+#[derive(Drop)]
+pub struct Colours {
+    words: List<u64>,
+}
+
+/// A contract sees each channel's colours, rising.
+impl Model for Colours {
+    ghost use Rattle.std.specs.Prelude.{ℕ, List as Items, ◌≤◌, length};
+    ghost use Rattle.xm_colours.specs.Words.{sets_of};
+
+    ghost Value = { Items (Items ℕ) };
+
+    ghost view = { λ c. sets_of c.words.items };
+
+    ghost invariant = { λ c. length c.words.items ≤ 8192 };
+}
+
+impl Colours {
+    ghost use Rattle.std.specs.Prelude.{◌≡◌, ◌↔◌, ◌≤◌, length, slice_get, IsTrue};
+    ghost use Rattle.xm_colours.specs.Family.{colours_at};
+    ghost use Rattle.xm_colours.specs.Pairs.{pairs};
+    ghost use Rattle.xm_colours.specs.Words.{set_of, sets_of};
+    ghost use Rattle.xm_model.specs.Run.{IsIn};
+
+    /// The sets of these words.
+    pub(crate) fn of(words: List<u64>) -> Colours
+        requires { length words.items ≤ 8192 }
+        ensures { result ≡ sets_of words.items }
+    {
+        Colours { words }
+    }
+
+    /// The set of channel `c`, as a word.
+    pub(crate) fn word(&self, c: u32) -> u64
+        ensures { colours_at self.now c ≡ set_of result }
+    {
+        match self.words.as_slice().get(c as usize) {
+            Some(word) => *word,
+            None => 0,
+        }
+    }
+
+    /// Whether colour `d` is one of channel `c`. Constant time.
+    pub fn has(&self, c: u32, d: u8) -> bool
+        ensures { IsTrue result ↔ IsIn (colours_at self.now c) d }
+    {
+        let word = self.word(c);
+        d < 64 && contains(word, d)
+    }
+
+    /// How many colours channel `c` has.
+    pub fn count(&self, c: u32) -> u32
+        ensures number { result ≡ length (colours_at self.now c) }
+        ensures few { result ≤ 64 }
+    {
+        count_below(self.word(c), 64)
+    }
+
+    /// The place of colour `d` among those of channel `c`, in colour order.
+    pub fn place(&self, c: u32, d: u8) -> u32
+        requires { IsIn (colours_at self.now c) d }
+        ensures { slice_get (colours_at self.now c) result ≡ Some d }
+    {
+        count_below(self.word(c), d)
+    }
+
+    /// How many pairs there are: a channel with a colour of its set.
+    pub fn pairs(&self) -> u64
+        ensures { result ≡ length (pairs (colours_at self.now) (length self.now)) }
+    {
+        let mut count = 0;
+        for word in self.words.as_slice() {
+            count += count_below(*word, 64) as u64;
+        }
+        count
+    }
+}

@@ -1,0 +1,4 @@
+mod Coloured
+mod Counting
+mod Fitting
+mod Lengths

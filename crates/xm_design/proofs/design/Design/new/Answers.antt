@@ -1,0 +1,11 @@
+use Rattle.xm_design.proofs.design.Design.new.Goals as goal
+
+pub invariant_of-result : goal.invariant_of-result
+invariant_of-result c = record {
+  designed = record { net = c.channels-channels.ensures.net; colours = c.in_ok-colours.ensures.colours; whole = c.in_ok-colours.ensures.whole; order = c.in-Ok.ensures.ok };
+  oracles = c.in_ok-numbers.ensures.oracles;
+  pairs = c.in_ok-numbers.ensures.pairs;
+}
+
+pub returns-clause-design : goal.returns-clause-design
+returns-clause-design c = record { net = c.channels-channels.ensures.net; colours = c.in_ok-colours.ensures.colours; whole = c.in_ok-colours.ensures.whole; order = c.in-Ok.ensures.ok }

@@ -1,0 +1,4 @@
+pub mod ColouredRuns
+pub mod Designed
+pub mod Numbers
+pub mod Offers

@@ -1,0 +1,117 @@
+//! A net that was checked: its colours, the order of its signals and its numbers.
+
+ghost use Rattle.std.specs.Prelude.{◌≡◌, map, slice_get, IfOk, Some};
+ghost use Rattle.xm_colours.specs.Allowing.{AllowsAll};
+ghost use Rattle.xm_colours.specs.Family.{colours_at};
+ghost use Rattle.xm_colours.specs.Pairs.{queue_pairs};
+ghost use Rattle.xm_model.specs.Naming.{allowed_of};
+
+use crate::fault::NetFault;
+use crate::numbers::{Numbers, numbers_of};
+use std::alloc::Global;
+use std::marker::Model;
+use xm_colours::{Colours, allowed, infer};
+use xm_model::{Allow, List, Net, Prim};
+use xm_order::{Order, OrderFault, order};
+
+/// A net with its colours and an order of its signals. A contract sees the three.
+#[derive(Drop)]
+pub struct Design {
+    net: Net,
+    colours: Colours,
+    order: Order,
+    numbers: Numbers,
+}
+
+impl Model for Design {
+    ghost use Rattle.xm_design.specs.Designed.{Designed};
+
+    ghost Value = { Designed };
+
+    ghost use Rattle.xm_design.specs.Numbers.{IsKept};
+
+    ghost view = { λ d. record { net = d.net; colours = d.colours; order = d.order } };
+
+    ghost invariant = { λ d. IsKept (record { net = d.net; colours = d.colours; order = d.order }) d.numbers.oracles.items d.numbers.pairs.items };
+}
+
+impl Design {
+    ghost use Rattle.xm_design.specs.Designed.{IsColourRefused, IsDesigned, IsLoopRefused};
+    ghost use Rattle.xm_design.specs.Numbers.{IsOracles, IsQueuePair};
+
+    /// The design of a net, where `allow` refuses no pair of a channel and a colour and the dependence of
+    /// its signals has no loop; else the first such fault. On refusal the net is dropped.
+    pub fn new(alloc: Global, net: Net, allow: &List<Allow>) -> Result<Design, NetFault>
+        ensures net { IfOk result (λ design. design.net ≡ net) }
+        ensures design { IfOk result IsDesigned }
+        ensures allowed { IfOk result (λ design. AllowsAll (colours_at design.colours) (map allowed_of allow.now.items)) }
+        ensures refused { (fault : _) → result ≡ Err (NetFault.Allow fault) → IsColourRefused net (map allowed_of allow.now.items) fault.channel fault.colour }
+        ensures looped { (found : _) → result ≡ Err (NetFault.CombLoop found) → IsLoopRefused net (map allowed_of allow.now.items) found.items }
+    {
+        let _channels = net.channels();
+        let colours = infer(alloc, &net)?;
+        allowed(&net, &colours, allow)?;
+        let order = match order(alloc, &net) {
+            Ok(order) => order,
+            Err(OrderFault::CombLoop(found)) => return Err(NetFault::CombLoop(found)),
+            Err(OrderFault::OutOfMemory) => return Err(NetFault::OutOfMemory),
+        };
+        let numbers = numbers_of(alloc, &net, &colours)?;
+        Ok(Design {
+            net,
+            colours,
+            order,
+            numbers,
+        })
+    }
+
+    /// Lends the net.
+    pub fn net(&self) -> &Net
+        ensures net { result.now ≡ self.now.net }
+        ensures design { IsDesigned self.now }
+    {
+        &self.net
+    }
+
+    /// Lends the colours.
+    pub fn colours(&self) -> &Colours
+        ensures { result.now ≡ self.now.colours }
+    {
+        &self.colours
+    }
+
+    /// Lends the order of the signals.
+    pub fn order(&self) -> &Order
+        ensures { result.now ≡ self.now.order }
+    {
+        &self.order
+    }
+
+    /// For each primitive, how many sources and sinks stand below it: the place of its choice in a row.
+    pub fn oracles(&self) -> &[u32]
+        ensures { IsOracles self.now.net.prims result.now }
+    {
+        self.numbers.oracles.as_slice()
+    }
+
+    /// The number of the pair of queue `q` and colour `d` of its output, among all queue pairs.
+    pub fn queue_pair(&self, q: u32, d: u8) -> u32
+        requires { IsQueuePair self.now q d }
+        ensures { slice_get (queue_pairs (colours_at self.now.colours) 0 self.now.net.prims) result ≡ Some (q, d) }
+    {
+        match self.net.prim(q) {
+            Prim::Queue { out, .. } => {
+                self.numbers.pairs.as_slice()[q as usize] + self.colours.place(*out, d)
+            }
+            _ => 0,
+        }
+    }
+
+    /// Hands the net back. It takes no memory.
+    pub fn into_net(self) -> Net
+        ensures { result ≡ self.net }
+    {
+        let Design { net, .. } = self;
+        net
+    }
+}

@@ -1,0 +1,11 @@
+//! A checked design: a net whose colours and order are known, with the numbers that later loops need.
+#![tactic(auto)]
+
+mod design;
+mod fault;
+mod laws;
+mod numbers;
+
+pub use design::Design;
+pub use fault::NetFault;
+pub use laws::{colours_hold, fits_hold};

@@ -1,0 +1,60 @@
+//! Numbers that are counted once, so that no later loop counts them again.
+
+ghost use Rattle.std.specs.Prelude.{◌≡◌, ◌≤◌, cond, length, IfOk};
+ghost use Rattle.xm_colours.specs.Family.{colours_at};
+ghost use Rattle.xm_colours.specs.Pairs.{queue_pairs_at};
+ghost use Rattle.xm_design.specs.Numbers.{ArePairsBelow, IsOracles};
+ghost use Rattle.xm_model.specs.Component.{component_of};
+ghost use Rattle.xm_model.specs.Lists.{is_oracle};
+
+use std::alloc::Global;
+use xm_colours::Colours;
+use xm_model::{List, Net, OutOfMemory, Prim};
+
+/// For each primitive, how many sources and sinks stand below it, and how many queue pairs.
+#[derive(Drop)]
+pub struct Numbers {
+    pub oracles: List<u32>,
+    pub pairs: List<u32>,
+}
+
+/// How many choices a primitive has in a cycle.
+fn choices(prim: &Prim) -> u32
+    ensures { result ≡ cond (is_oracle (component_of prim.now)) 1 0 }
+{
+    match prim {
+        Prim::Source { .. } | Prim::Sink { .. } => 1,
+        _ => 0,
+    }
+}
+
+/// How many queue pairs it has.
+fn queue_pairs(prim: &Prim, colours: &Colours) -> u32
+    ensures number { result ≡ length (queue_pairs_at (colours_at colours.now) 0 (component_of prim.now)) }
+    ensures few { result ≤ 64 }
+{
+    match prim {
+        Prim::Queue { out, .. } => colours.count(*out),
+        _ => 0,
+    }
+}
+
+/// The numbers of a net with these colours.
+pub fn numbers_of(alloc: Global, net: &Net, colours: &Colours) -> Result<Numbers, OutOfMemory>
+    ensures oracles { IfOk result (λ numbers. IsOracles net.now.prims numbers.oracles.items) }
+    ensures pairs { IfOk result (λ numbers. ArePairsBelow (colours_at colours.now) net.now.prims numbers.pairs.items) }
+{
+    let prims = net.prims().as_slice();
+    let mut oracles = List::new(alloc);
+    let mut pairs = List::new(alloc);
+    let mut choices_below = 0;
+    let mut pairs_below = 0;
+    for p in 0..prims.len() {
+        let prim = &prims[p];
+        oracles.push(choices_below)?;
+        pairs.push(pairs_below)?;
+        choices_below += choices(prim);
+        pairs_below += queue_pairs(prim, colours);
+    }
+    Ok(Numbers { oracles, pairs })
+}

@@ -1,0 +1,4 @@
+mod Grounds
+mod Marking
+mod RightsKept
+mod TwoCycles

@@ -1,0 +1,5 @@
+use Rattle.xm_persist.proofs.RightsKept as law
+use Rattle.xm_persist.proofs.laws.grants_hold.Goals as goal
+
+pub returns : goal.returns
+returns c = law.grants_hold
