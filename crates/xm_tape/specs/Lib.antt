@@ -1,0 +1,5 @@
+pub mod Draws
+pub mod Fault
+pub mod Marks
+pub mod Reading
+pub mod Taped

@@ -1,0 +1,44 @@
+//! Why a value is no tape.
+
+ghost use Rattle.std.specs.Prelude.{◌≡◌};
+ghost use Rattle.xm_tape.specs.declared.fault.TapeFault.TheVariants as faults;
+
+use std::alloc::{AllocError, AllocFailed};
+use xm_model::Text;
+
+/// The first fault of a tape. `TapeShape` has a path that begins with `tape`; `TapeLimit` the number that
+/// is too great: cycles, or cycles times channels; `RowLength` a row and its length in bytes; `BadMark` a
+/// row and the place of an oracle among the sources and sinks. A row is named by its place in `rows`, or in
+/// `stem` followed by `cycle` once.
+#[derive(Drop)]
+pub enum TapeFault {
+    TapeShape(Text),
+    TapeLimit(u64),
+    RowLength(u32, u64),
+    BadMark(u32, u32),
+    OutOfMemory,
+}
+
+impl From<AllocError> for TapeFault {
+    ghost from_gives = { λ _ fault. fault ≡ faults.OutOfMemory };
+
+    fn from(_: AllocError) -> TapeFault {
+        TapeFault::OutOfMemory
+    }
+}
+
+impl<T: Drop> From<AllocFailed<T>> for TapeFault {
+    ghost from_gives = { λ _ fault. fault ≡ faults.OutOfMemory };
+
+    fn from(_: AllocFailed<T>) -> TapeFault {
+        TapeFault::OutOfMemory
+    }
+}
+
+impl From<xm_model::OutOfMemory> for TapeFault {
+    ghost from_gives = { λ _ fault. fault ≡ faults.OutOfMemory };
+
+    fn from(_: xm_model::OutOfMemory) -> TapeFault {
+        TapeFault::OutOfMemory
+    }
+}
