@@ -101,7 +101,7 @@ module _ (net : Network) (signals : List Signal) (colours : ℕ → List ℕ) (i
     coloured c d below is = let at = order.whole (signal.Offer c) below in coloured_below (suc at.0) at.0 c (omega arith) at.1 d is
 
   -- a cell fits after the cycle
-  next_fits : (p : Component) → Closed colours p → (s : Content) (w : Choice) (φ : Signals) → Equation p s w φ → ContentFits colours p s → ((c d : ℕ) → (Drives p c ⊎ Takes p c) → φ.offer c ≡ Some d → IsIn (colours c) d) → ContentFits colours p (content_after p s φ)
+  pub next_fits : (p : Component) → Closed colours p → (s : Content) (w : Choice) (φ : Signals) → Equation p s w φ → ContentFits colours p s → ((c d : ℕ) → (Drives p c ⊎ Takes p c) → φ.offer c ≡ Some d → IsIn (colours c) d) → ContentFits colours p (content_after p s φ)
   next_fits (Source out cs mode) shut s w φ e fits offered = λ d is. offered out d (inl source_drives) (left_over mode (φ.offer out) (φ.ready out) d is) where
     left_over : (mode : SourceMode) (o : Option ℕ) (r : Bool) (d : ℕ) → next_pending mode o r ≡ Some d → o ≡ Some d
     left_over source_mode.Keep o true d is = cc

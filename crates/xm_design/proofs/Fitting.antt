@@ -10,8 +10,9 @@ use Rattle.xm_model.specs.Signals.{Signals}
 use Rattle.xm_model.specs.declared.parts.Choice.{Choice}
 use Rattle.xm_model.specs.declared.parts.Side.{Side}
 use Rattle.xm_colours.specs.Family.{Closed, IsClosed}
-use Rattle.xm_design.specs.ColouredRuns.{ContentFits, FitsHold}
-use Rattle.xm_design.proofs.Coloured.{colours_hold}
+use Rattle.xm_design.specs.ColouredRuns.{ContentFits, FitsHold, FitsNext}
+use Rattle.xm_design.proofs.Coloured.{coloured, colours_hold, next_fits}
+use Rattle.xm_model.specs.Counted.{counted, driven_below, taken_below}
 use Rattle.xm_model.specs.Limits.{prim_fits}
 
 -- the numbers below n
@@ -105,3 +106,42 @@ fits_hold net signals cycles w s φ is_net order tape run t h p m has =
     let closed : IsClosed net (λ c. upto net.colours) = λ q k there. all_closed net.colours k (prim_fits net is_net q k there) in
     fits net.colours m (s t p) (form_at net cycles w s φ run t h p m has)
     ((colours_hold net signals (λ c. upto net.colours) cycles w s φ is_net order closed tape run).0 t p m h has)
+
+-- ---- one cycle, from any fitting state
+
+in_all : (n : ℕ) (ps : List ℕ) → All (λ d. d < n) ps → (j d : ℕ) → slice_get ps j ≡ Some d → IsIn (upto n) d
+in_all n [] all j d at = absurd cc
+in_all n (p ∷ ps) all zero d at = let same : p ≡ d = cc in subst (IsIn (upto n)) same (in_upto n p (all 0 p (omega arith)))
+in_all n (p ∷ ps) all (suc j) d at = in_all n ps (λ i y h. all (suc i) y (omega arith)) j d at
+
+-- a fitting content has colours of the net
+knows : (n : ℕ) (m : Component) (x : Content) → FitsContent n m x → ContentFits (λ c. upto n) m x
+knows n (Source out cs mode) (Pending None) h = λ d is. absurd cc
+knows n (Source out cs mode) (Pending (Some e)) h = λ d is. (let same : e ≡ d = cc in subst (IsIn (upto n)) same (in_upto n e h))
+knows n (Source out cs mode) (Packets ps) h = absurd h
+knows n (Source out cs mode) (Held b) h = absurd h
+knows n (Source out cs mode) (Pref side) h = absurd h
+knows n (Source out cs mode) Nothing h = absurd h
+knows n (Sink input mode) x h = tt
+knows n (Queue input out capacity initial) (Packets ps) h = (in_all n ps h.1, h.0)
+knows n (Queue input out capacity initial) (Pending o) h = absurd h
+knows n (Queue input out capacity initial) (Held b) h = absurd h
+knows n (Queue input out capacity initial) (Pref side) h = absurd h
+knows n (Queue input out capacity initial) Nothing h = absurd h
+knows n (Function input out table) x h = tt
+knows n (Fork input a b ta tb) x h = tt
+knows n (Join a b out pass) x h = tt
+knows n (Switch input a b to_a) x h = tt
+knows n (Merge a b out) x h = tt
+
+pub fits_next : FitsNext
+fits_next net signals s w φ is_net order fitting choices is_frame p m has =
+    let colours : ℕ → List ℕ = λ c. upto net.colours in
+    let closed : IsClosed net colours = λ q k there. all_closed net.colours k (prim_fits net is_net q k there) in
+    let known : (q : ℕ) (k : Component) → HasPrim net q k → ContentFits colours k (s q) = λ q k there. knows net.colours k (s q) (fitting q k there) in
+    let wired = counted net is_net in
+    let after = next_fits net signals colours is_net order closed m (closed p m has) (s p) (w p) φ (is_frame p m has) (known p m has)
+      (λ c d named is. coloured net signals colours is_net order closed s w φ is_frame known choices c d
+      (elim named [ inl drives ↦ driven_below net wired p m c has drives | inr takes ↦ taken_below net wired p m c has takes ]) is) in
+    let there : next_at (Some m) (s p) φ ≡ next_at (slice_get net.prims p) (s p) φ = ap (λ o. next_at o (s p) φ) (sym has) in
+    subst (FitsContent net.colours m) there (fits net.colours m (content_after m (s p) φ) (next_form m (s p) φ) after)

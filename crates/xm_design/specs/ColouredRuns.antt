@@ -2,9 +2,10 @@
 use Rattle.std.specs.Prelude.{◌≡◌, ℕ, ◌<◌, ◌≤◌, List, length, Some, slice_get}
 use Rattle.xm_colours.specs.Family.{IsClosed}
 use Rattle.xm_model.specs.Component.{Component, Content, Fork, Function, Join, Merge, Queue, Sink, Source, Switch}
+use Rattle.xm_model.specs.Frame.{IsFrame}
 use Rattle.xm_model.specs.Net.{HasPrim, IsNet, Network}
-use Rattle.xm_model.specs.Run.{IsIn, IsRun, TapeFits}
-use Rattle.xm_model.specs.Next.{IsFittingState}
+use Rattle.xm_model.specs.Run.{ChoiceFits, IsIn, IsRun, TapeFits}
+use Rattle.xm_model.specs.Next.{IsFittingState, next}
 use Rattle.xm_model.specs.Signals.{Signals, packets_in, pending_in}
 use Rattle.xm_model.specs.declared.parts.Choice.{Choice}
 use Rattle.xm_order.specs.Dependence.{IsOrder}
@@ -34,3 +35,10 @@ abbrev pub FitsHold : Type 0
 FitsHold =
     (net : Network) (signals : List Signal) (cycles : ℕ) (w : ℕ → ℕ → Choice) (s : ℕ → ℕ → Content) (φ : ℕ → Signals) →
     IsNet net → IsOrder net signals → TapeFits net cycles w → IsRun net cycles w s φ → (t : ℕ) → t ≤ cycles → IsFittingState net (s t)
+
+-- the state after a cycle from any fitting state, under choices that fit, fits too
+abbrev pub FitsNext : Type 0
+FitsNext =
+    (net : Network) (signals : List Signal) (s : ℕ → Content) (w : ℕ → Choice) (φ : Signals) →
+    IsNet net → IsOrder net signals → IsFittingState net s → ((p : ℕ) (m : Component) → HasPrim net p m → ChoiceFits m (w p)) → IsFrame net s w φ →
+    IsFittingState net (next net s φ)

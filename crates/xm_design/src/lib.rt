@@ -8,4 +8,4 @@ mod numbers;
 
 pub use design::Design;
 pub use fault::NetFault;
-pub use laws::{colours_hold, fits_hold};
+pub use laws::{colours_hold, fits_hold, fits_next};

@@ -2,3 +2,4 @@ pub mod Moves
 pub mod Runs
 pub mod Sums
 pub mod Text
+pub mod Told

@@ -1,5 +1,5 @@
 -- The moves of a run, by cycle and then channel.
-use Rattle.std.specs.Prelude.{ℕ, zero, suc, List, [], ◌∷◌, ◌++◌, Option, Some, None}
+use Rattle.std.specs.Prelude.{ℕ, zero, suc, ◌+◌, List, [], ◌∷◌, ◌++◌, Option, Some, None}
 use Rattle.xm_model.specs.Next.{move}
 use Rattle.xm_model.specs.Signals.{Signals}
 use Rattle.xm_trace.specs.declared.trace.Move.{Move}
@@ -14,7 +14,12 @@ abbrev pub cycle_moves : Signals → ℕ → ℕ → List Move
 cycle_moves φ t zero = []
 cycle_moves φ t (suc c) = cycle_moves φ t c ++ moved_on t c (move φ c)
 
--- the moves of the first cycles on so many channels
+-- the moves of so many cycles from a cycle on
+abbrev pub round_moves : (ℕ → Signals) → ℕ → ℕ → ℕ → List Move
+round_moves φ channels from zero = []
+round_moves φ channels from (suc n) = round_moves φ channels from n ++ cycle_moves (φ (from + n)) (from + n) channels
+
+-- the moves of the first cycles
 abbrev pub run_moves : (ℕ → Signals) → ℕ → ℕ → List Move
 run_moves φ channels zero = []
 run_moves φ channels (suc t) = run_moves φ channels t ++ cycle_moves (φ t) t channels

@@ -1,14 +1,14 @@
 -- The text of a run: a line for each cycle, the sums of the moves, and the number of cycles.
-use Rattle.std.specs.Prelude.{◌≡◌, ℕ, zero, suc, List, [], ◌∷◌, ◌++◌, length, slice_index_or, codes, decimal}
+use Rattle.std.specs.Prelude.{◌≡◌, ℕ, zero, suc, ◌+◌, List, [], ◌∷◌, ◌++◌, length, slice_index_or, codes, decimal}
 use Rattle.std.specs.List.{flat_map}
 use Rattle.xm_model.specs.Component.{Content}
 use Rattle.xm_model.specs.Naming.{Naming}
 use Rattle.xm_model.specs.Net.{Network}
-use Rattle.xm_model.specs.Run.{IsRun, moves}
+use Rattle.xm_model.specs.Run.{moves}
 use Rattle.xm_model.specs.Signals.{Signals}
-use Rattle.xm_model.specs.declared.parts.Choice.{Choice}
 use Rattle.xm_trace.specs.Moves.{cycle_moves}
-use Rattle.xm_trace.specs.Runs.{tape_of}
+use Rattle.xm_tape.specs.Taped.{Taped, cycles_of}
+use Rattle.xm_trace.specs.Runs.{IsRunOf}
 use Rattle.xm_trace.specs.declared.trace.Move.{Move}
 
 abbrev pub name_at : List (List ℕ) → ℕ → List ℕ
@@ -28,6 +28,11 @@ cycle_line names φ t = line (decimal t ++ flat_map (move_text names) (cycle_mov
 abbrev pub cycle_lines : Naming → (ℕ → Signals) → ℕ → List ℕ
 cycle_lines names φ zero = []
 cycle_lines names φ (suc t) = cycle_lines names φ t ++ cycle_line names φ t
+
+-- the lines of so many cycles from a cycle on
+abbrev pub round_lines : Naming → (ℕ → Signals) → ℕ → ℕ → List ℕ
+round_lines names φ from zero = []
+round_lines names φ from (suc n) = round_lines names φ from n ++ cycle_line names φ (from + n)
 
 -- how often the colour moved on the channel, where it did
 abbrev pub sum_line : Naming → ℕ → ℕ → ℕ → List ℕ
@@ -50,9 +55,13 @@ end_line cycles = line (codes "end " ++ decimal cycles)
 abbrev pub run_text : Naming → (ℕ → Signals) → ℕ → List ℕ
 run_text names φ cycles = cycle_lines names φ cycles ++ sum_lines names (λ c d. moves φ c d cycles) (length names.channels) ++ end_line cycles
 
+-- what follows the lines of all cycles
+abbrev pub end_text : Naming → (ℕ → Signals) → ℕ → List ℕ
+end_text names φ cycles = sum_lines names (λ c d. moves φ c d cycles) (length names.channels) ++ end_line cycles
+
 -- the text is that of the tape's run
-pub record IsTextOfRun (net : Network) (names : Naming) (rows : List (List Choice)) (text : List ℕ) : Type 0 where
+pub record IsTextOfRun (net : Network) (names : Naming) (tape : Taped) (text : List ℕ) : Type 0 where
   pub states : ℕ → ℕ → Content
   pub frames : ℕ → Signals
-  pub run : IsRun net (length rows) (tape_of net.prims rows) states frames
-  pub same : text ≡ run_text names frames (length rows)
+  pub run : IsRunOf net tape states frames
+  pub same : text ≡ run_text names frames (cycles_of tape)
