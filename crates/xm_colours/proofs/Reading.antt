@@ -1,12 +1,11 @@
 -- What the words tell of the sets that callers see.
-use Rattle.std.proofs.Common.{◌≡◌, ◌↔◌, ℕ, zero, suc, ◌+◌, ◌*◌, ◌<◌, ◌≤◌, Bool, true, nat_lt, List, [], ◌∷◌, ◌++◌, Some, length, map, get_or, slice_get, refl, sym, ◌∙◌, ap, subst, arith, length-append, add-one, ltb-true}
-use Rattle.std.proofs.lemmas.Bool.{cases_lt}
-use Rattle.std.proofs.lemmas.List.{get_or_default, get_or_past, length-map}
+use Rattle.std.proofs.Common.{◌≡◌, ◌↔◌, ℕ, zero, suc, ◌+◌, ◌<◌, ◌≤◌, Bool, true, nat_lt, List, [], ◌∷◌, Some, length, get_or, slice_get, refl, sym, ◌∙◌, ap, subst, arith, length-append, add-one, ltb-true}
+use Rattle.std.proofs.lemmas.List.{get_or_past, length-map}
 use Rattle.std.specs.Prelude.{IsTrue}
 use Rattle.xm_colours.proofs.Words.{of_count, of_has, of_none, of_place, of_tells}
 use Rattle.xm_colours.specs.Family.{colours_at}
 use Rattle.xm_colours.specs.Pairs.{pairs}
-use Rattle.xm_colours.specs.Words.{Has, holds, set_below, set_of, sets_of}
+use Rattle.xm_colours.specs.Words.{holds, set_below, set_of, sets_of}
 use Rattle.xm_model.specs.Run.{IsIn}
 
 set_at : (words : List ℕ) (c : ℕ) → c < length words → colours_at (sets_of words) c ≡ set_of (get_or words c 0)

@@ -1,5 +1,5 @@
 -- The sets of all channels, and a pair that comes to them.
-use Rattle.std.proofs.Common.{◌≡◌, ◌≢◌, ◌⊎◌, ℕ, zero, suc, ◌+◌, ◌-◌, Some, map, take, remove, drop, slice_get, ◌<◌, ◌≤◌, Bool, true, false, List, [], ◌∷◌, ◌++◌, length, set, get_or, refl, sym, ◌∙◌, ap, subst, inl, inr, arith, length-append, append_assoc}
+use Rattle.std.proofs.Common.{◌≡◌, ◌≢◌, ◌⊎◌, ℕ, zero, suc, ◌+◌, ◌-◌, Some, map, take, remove, drop, slice_get, ◌<◌, ◌≤◌, true, false, List, [], ◌∷◌, ◌++◌, length, set, get_or, refl, sym, ◌∙◌, ap, subst, inl, inr, arith, length-append}
 use Rattle.std.proofs.lemmas.Bool.{cases_eq}
 use Rattle.std.proofs.lemmas.List.{get_or-set_other, get_or-set_same, length-set, append-nil, drop_all, map-append, take_all, take_more}
 use Rattle.std.proofs.lemmas.Option.{get_or_from_slice_get, slice_get_within}
@@ -11,7 +11,7 @@ use Rattle.std.proofs.lemmas.List.Sums.{sum_by-set}
 use Rattle.xm_colours.proofs.Among.{in_either, in_left, in_map, in_right, place_in}
 use Rattle.xm_colours.proofs.Words.{of_has, of_le, of_more, of_rises, of_tells}
 use Rattle.xm_colours.specs.Family.{Rises, colours_at}
-use Rattle.xm_colours.specs.Spreading.{AddsOver, Fit, HasAll, pair}
+use Rattle.xm_colours.specs.Spreading.{AddsOver, Fit, pair}
 use Rattle.xm_colours.specs.Words.{Has, holds, lacking, set_of, sets_of}
 use Rattle.xm_colours.specs.declared.images.Pair.{Pair}
 use Rattle.xm_model.specs.Owner.{In}

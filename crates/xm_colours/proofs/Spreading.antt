@@ -1,6 +1,6 @@
 -- How colours spread: from nothing, by what primitives bring, pair by pair, to the least closed family.
-use Rattle.std.proofs.Common.{◌≡◌, ◌≢◌, ◌⊎◌, ℕ, zero, suc, ◌+◌, ◌-◌, ◌*◌, ◌<◌, ◌≤◌, List, [], ◌∷◌, ◌++◌, Some, length, map, replicate, get_or, slice_get, refl, sym, ◌∙◌, ap, subst, inl, inr, arith, length-append, true, eqb-true}
-use Rattle.std.proofs.lemmas.Bool.{cases_eq, cases_lt}
+use Rattle.std.proofs.Common.{◌≡◌, ℕ, ◌+◌, ◌-◌, ◌*◌, ◌<◌, ◌≤◌, List, [], ◌∷◌, ◌++◌, length, map, replicate, get_or, slice_get, refl, sym, ◌∙◌, ap, subst, inl, inr, arith, length-append, true, eqb-true}
+use Rattle.std.proofs.lemmas.Bool.{cases_eq}
 use Rattle.std.proofs.lemmas.List.{get_or-replicate, length-map, length-replicate}
 use Rattle.std.proofs.lemmas.List.Sums.{sum_by-le}
 use Rattle.std.proofs.lemmas.Option.{slice_get-map, slice_get_read, slice_get_within}
@@ -10,15 +10,15 @@ use Rattle.std.specs.Int.{bit_at}
 use Rattle.xm_colours.proofs.Among.{in_either, in_left, in_right}
 use Rattle.xm_colours.proofs.Sets.{has_tells, sets_rise}
 use Rattle.xm_colours.proofs.Through.{closed_from, closed_given, closed_sent, covers, given_fits, sent_fits}
-use Rattle.xm_colours.specs.Family.{AreColours, IsClosed, colours_at}
-use Rattle.xm_colours.specs.Spreading.{AddsOver, Covers, Fit, HasAll, HasGiven, IsPassed, IsSpreadOver, given, pair, sent}
+use Rattle.xm_colours.specs.Family.{AreColours, colours_at}
+use Rattle.xm_colours.specs.Spreading.{AddsOver, Covers, Fit, HasGiven, IsPassed, IsSpreadOver, given, pair, sent}
 use Rattle.xm_colours.specs.Words.{Has, holds, lacking, set_of, sets_of}
 use Rattle.xm_colours.specs.declared.images.Pair.{Pair}
 use Rattle.xm_model.specs.Component.{Component, component_of}
 use Rattle.xm_model.specs.declared.parts.Primitive.{Primitive}
 use Rattle.xm_model.specs.Counted.{counted, driven_below, first_or_rest, taken_below, takes_counted}
 use Rattle.xm_model.specs.Limits.{prim_fits}
-use Rattle.xm_model.specs.Net.{HasPrim, IsNet, Network, inputs, targets}
+use Rattle.xm_model.specs.Net.{HasPrim, IsNet, Network, inputs}
 use Rattle.xm_model.specs.Owner.{In, targets-input}
 use Rattle.xm_model.specs.Ports.{Drives, IsTaker, Takes}
 use Rattle.xm_model.specs.Run.{times}

@@ -1,6 +1,5 @@
 -- What a primitive brings, and what it makes of a colour that comes in, kind by kind.
-use Rattle.std.proofs.Common.{◌≡◌, ◌⊎◌, ℕ, ◌<◌, ◌≤◌, ◌==◌, Bool, true, false, cond, List, [], ◌∷◌, map, length, slice_index, refl, sym, ◌∙◌, ap, subst, inl, inr, arith, eq-eqb, eqb-true}
-use Rattle.std.proofs.lemmas.Bool.{cases_Bool, cond-true, cond-false}
+use Rattle.std.proofs.Common.{◌≡◌, ◌⊎◌, ℕ, ◌<◌, ◌==◌, Bool, true, false, cond, List, [], ◌∷◌, map, length, slice_index, refl, sym, ap, subst, inl, inr, arith, eq-eqb, eqb-true}
 use Rattle.std.specs.Prelude.{All}
 use Rattle.xm_colours.proofs.Among.{all_in, in_from, in_map, in_where, is_in, map_in, where_in}
 use Rattle.xm_colours.specs.Family.{Closed}
@@ -12,7 +11,6 @@ use Rattle.xm_model.specs.Owner.{In}
 use Rattle.xm_model.specs.Ports.{Drives, Takes, fork_drives_a, fork_drives_b, fork_takes, function_drives, function_takes, join_drives, join_takes_a, join_takes_b, merge_drives, merge_takes_a, merge_takes_b, queue_drives, queue_takes, sink_takes, source_drives, switch_drives_a, switch_drives_b, switch_takes}
 use Rattle.xm_model.specs.Run.{IsIn}
 use Rattle.xm_model.specs.Signals.{at_side, takes_a}
-use Rattle.xm_model.specs.declared.parts.Side.{Side}
 use Rattle.xm_model.specs.declared.parts.Side.TheVariants.{A, B}
 
 -- one of two pairs, as a test tells

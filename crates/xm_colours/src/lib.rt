@@ -13,3 +13,6 @@ pub use allow::{ColourFault, allowed};
 pub use colours::Colours;
 pub use laws::cuts_hold;
 pub use spread::infer;
+
+#[cfg(test)]
+mod tests;

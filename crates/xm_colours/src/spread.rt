@@ -1,10 +1,10 @@
 //! The least closed family: from what sources and queues bring, each pair of a channel and a colour goes on
 //! once through the primitive that takes from its channel.
 
-ghost use Rattle.std.specs.Prelude.{◌≡◌, ℕ, ◌+◌, ◌*◌, ◌^◌, ◌<◌, ◌≤◌, [], ◌∷◌, ◌++◌, length, map, replicate, slice_set, IfOk, OnOk};
+ghost use Rattle.std.specs.Prelude.{◌≡◌, ℕ, ◌^◌, ◌<◌, [], ◌∷◌, ◌++◌, length, map, replicate, slice_set, IfOk, OnOk};
 ghost use Rattle.std.specs.Option.{option_to_list};
 ghost use Rattle.xm_colours.specs.Family.{AreColours, colours_at};
-ghost use Rattle.xm_colours.specs.Spreading.{Adds, Covers, Fit, HasAll, HasGiven, IsSpread, given, pair, sent, work_left};
+ghost use Rattle.xm_colours.specs.Spreading.{Adds, Covers, Fit, HasGiven, IsSpread, given, pair, sent, work_left};
 ghost use Rattle.xm_colours.specs.Words.{Has};
 ghost use Rattle.xm_model.specs.Component.{component_of};
 

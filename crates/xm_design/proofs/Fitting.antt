@@ -3,13 +3,13 @@ use Rattle.std.proofs.Common.{◌≡◌, ℕ, zero, suc, ◌<◌, ◌≤◌, Boo
 use Rattle.std.specs.Prelude.{All}
 use Rattle.std.proofs.lemmas.Bool.{cases_eq}
 use Rattle.xm_model.specs.Component.{Component, Content, Fork, Function, Held, Join, Merge, Nothing, Packets, Pending, Pref, Queue, Sink, Source, Switch}
-use Rattle.xm_model.specs.Net.{FitsComponent, HasPrim, Network}
+use Rattle.xm_model.specs.Net.{FitsComponent, HasPrim, IsNet, Network}
 use Rattle.xm_model.specs.Next.{FitsContent, content_after, next_at, reset_at, reset_content}
 use Rattle.xm_model.specs.Run.{IsIn, IsRun}
 use Rattle.xm_model.specs.Signals.{Signals}
 use Rattle.xm_model.specs.declared.parts.Choice.{Choice}
 use Rattle.xm_model.specs.declared.parts.Side.{Side}
-use Rattle.xm_colours.specs.Family.{Closed, IsClosed}
+use Rattle.xm_colours.specs.Family.{AreColours, Closed, IsClosed}
 use Rattle.xm_design.specs.ColouredRuns.{ContentFits, FitsHold, FitsNext}
 use Rattle.xm_design.proofs.Coloured.{coloured, colours_hold, next_fits}
 use Rattle.xm_model.specs.Counted.{counted, driven_below, taken_below}
@@ -145,3 +145,8 @@ fits_next net signals s w φ is_net order fitting choices is_frame p m has =
       (elim named [ inl drives ↦ driven_below net wired p m c has drives | inr takes ↦ taken_below net wired p m c has takes ]) is) in
     let there : next_at (Some m) (s p) φ ≡ next_at (slice_get net.prims p) (s p) φ = ap (λ o. next_at o (s p) φ) (sym has) in
     subst (FitsContent net.colours m) there (fits net.colours m (content_after m (s p) φ) (next_form m (s p) φ) after)
+
+-- the colours of a channel are colours of the net
+pub colours_below : (net : Network) (colours : ℕ → List ℕ) → IsNet net → AreColours net colours → (c d : ℕ) → IsIn (colours c) d → d < net.colours
+colours_below net colours is_net are c d inside =
+    below net.colours d (are.least (λ k. upto net.colours) (λ q k there. all_closed net.colours k (prim_fits net is_net q k there)) c d inside)

@@ -1,10 +1,11 @@
 //! A net that was checked: its colours, the order of its signals and its numbers.
 
-ghost use Rattle.std.specs.Prelude.{◌≡◌, map, slice_get, IfOk, Some};
+ghost use Rattle.std.specs.Prelude.{◌≡◌, ◌<◌, ℕ, map, slice_get, IfOk, Some};
 ghost use Rattle.xm_colours.specs.Allowing.{AllowsAll};
 ghost use Rattle.xm_colours.specs.Family.{colours_at};
 ghost use Rattle.xm_colours.specs.Pairs.{queue_pairs};
 ghost use Rattle.xm_model.specs.Naming.{allowed_of};
+ghost use Rattle.xm_model.specs.Run.{IsIn};
 
 use crate::fault::NetFault;
 use crate::numbers::{Numbers, numbers_of};
@@ -75,7 +76,8 @@ impl Design {
 
     /// Lends the colours.
     pub fn colours(&self) -> &Colours
-        ensures { result.now ≡ self.now.colours }
+        ensures value { result.now ≡ self.now.colours }
+        ensures below { (c d : ℕ) → IsIn (colours_at self.now.colours c) d → d < self.now.net.colours }
     {
         &self.colours
     }

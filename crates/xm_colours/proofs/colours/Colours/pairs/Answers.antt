@@ -1,4 +1,4 @@
-use Rattle.std.proofs.Common.{◌≡◌, ℕ, List, ap, ◌∙◌, ◌≤◌, length, arith}
+use Rattle.std.proofs.Common.{ap, ◌∙◌, ◌≤◌, length, arith}
 use Rattle.xm_colours.proofs.Reading.{pairs_of, pairs_word}
 use Rattle.xm_colours.specs.Words.{sets_of}
 use Rattle.xm_colours.proofs.colours.Colours.pairs.Goals as goal

@@ -1,4 +1,4 @@
-use Rattle.std.proofs.Common.{List, ℕ, ◌≡◌, ap, sym, ◌∙◌, ltb-false}
+use Rattle.std.proofs.Common.{List, ℕ, ap, sym, ◌∙◌, ltb-false}
 use Rattle.xm_colours.proofs.Reading.{set_past}
 use Rattle.xm_colours.specs.Family.{colours_at}
 use Rattle.xm_colours.specs.Words.{sets_of}

@@ -1,4 +1,4 @@
-use Rattle.std.proofs.Common.{◌≡◌, get_or, sym, ◌∙◌, ap}
+use Rattle.std.proofs.Common.{get_or, sym, ◌∙◌, ap}
 use Rattle.xm_colours.proofs.Sets.{adds_again, adds_written, refill_set}
 use Rattle.xm_colours.proofs.spread.Spread.add.Goals as goal
 

@@ -1,4 +1,3 @@
-use Rattle.std.proofs.Common.{refl, inl}
 use Rattle.xm_colours.proofs.Sets.{fit_some}
 use Rattle.xm_colours.proofs.spread.Spread.add_some.Goals as goal
 

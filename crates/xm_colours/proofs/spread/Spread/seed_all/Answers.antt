@@ -1,7 +1,6 @@
-use Rattle.std.proofs.Common.{◌≡◌, List, length, map, ap, sym, ◌∙◌, arith}
+use Rattle.std.proofs.Common.{map, ap, ◌∙◌, arith}
 use Rattle.xm_colours.proofs.Spreading.{fits_given, given_more, prim_at, prim_within, seeded}
 use Rattle.xm_model.specs.Component.{component_of}
-use Rattle.xm_model.specs.declared.parts.Primitive.{Primitive}
 use Rattle.xm_colours.proofs.spread.Spread.seed_all.Goals as goal
 
 pub loop-prim-init : goal.loop-prim-init

@@ -1,4 +1,3 @@
-use Rattle.std.proofs.Common.{◌≡◌}
 use Rattle.xm_colours.proofs.Sets.{split_last}
 use Rattle.xm_colours.proofs.spread.Spread.take_last.Goals as goal
 
