@@ -141,8 +141,8 @@ fits_next net signals s w φ is_net order fitting choices is_frame p m has =
     let known : (q : ℕ) (k : Component) → HasPrim net q k → ContentFits colours k (s q) = λ q k there. knows net.colours k (s q) (fitting q k there) in
     let wired = counted net is_net in
     let after = next_fits net signals colours is_net order closed m (closed p m has) (s p) (w p) φ (is_frame p m has) (known p m has)
-      (λ c d named is. coloured net signals colours is_net order closed s w φ is_frame known choices c d
-      (elim named [ inl drives ↦ driven_below net wired p m c has drives | inr takes ↦ taken_below net wired p m c has takes ]) is) in
+    (λ c d named is. coloured net signals colours is_net order closed s w φ is_frame known choices c d
+    (elim named [ inl drives ↦ driven_below net wired p m c has drives | inr takes ↦ taken_below net wired p m c has takes ]) is) in
     let there : next_at (Some m) (s p) φ ≡ next_at (slice_get net.prims p) (s p) φ = ap (λ o. next_at o (s p) φ) (sym has) in
     subst (FitsContent net.colours m) there (fits net.colours m (content_after m (s p) φ) (next_form m (s p) φ) after)
 

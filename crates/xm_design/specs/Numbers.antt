@@ -42,7 +42,8 @@ pub record IsQueuePair (it : Designed) (q d : ℕ) : Type 0 where
   pub colour : IsIn (colours_at it.colours out) d
 
 -- what a design keeps beside net, colours and order
-pub record IsKept (it : Designed) (places below : List ℕ) : Type 0 where
+pub record IsKept (it : Designed) (places below : List ℕ) (choices : ℕ) : Type 0 where
   pub designed : IsDesigned it
+  pub count : choices ≡ oracles_below it.net.prims (length it.net.prims)
   pub oracles : IsOracles it.net.prims places
   pub pairs : ArePairsBelow (colours_at it.colours) it.net.prims below

@@ -1,9 +1,10 @@
 //! A net that was checked: its colours, the order of its signals and its numbers.
 
-ghost use Rattle.std.specs.Prelude.{◌≡◌, ◌<◌, ℕ, map, slice_get, IfOk, Some};
+ghost use Rattle.std.specs.Prelude.{◌≡◌, ◌<◌, ℕ, length, map, slice_get, IfOk, Some};
 ghost use Rattle.xm_colours.specs.Allowing.{AllowsAll};
 ghost use Rattle.xm_colours.specs.Family.{colours_at};
 ghost use Rattle.xm_colours.specs.Pairs.{queue_pairs};
+ghost use Rattle.xm_model.specs.Lists.{oracles_below};
 ghost use Rattle.xm_model.specs.Naming.{allowed_of};
 ghost use Rattle.xm_model.specs.Run.{IsIn};
 
@@ -33,7 +34,7 @@ impl Model for Design {
 
     ghost view = { λ d. record { net = d.net; colours = d.colours; order = d.order } };
 
-    ghost invariant = { λ d. IsKept (record { net = d.net; colours = d.colours; order = d.order }) d.numbers.oracles.items d.numbers.pairs.items };
+    ghost invariant = { λ d. IsKept (record { net = d.net; colours = d.colours; order = d.order }) d.numbers.oracles.items d.numbers.pairs.items d.numbers.choices };
 }
 
 impl Design {
@@ -94,6 +95,13 @@ impl Design {
         ensures { IsOracles self.now.net.prims result.now }
     {
         self.numbers.oracles.as_slice()
+    }
+
+    /// How many sources and sinks there are: the length of a row of choices.
+    pub fn oracle_count(&self) -> u32
+        ensures { result ≡ oracles_below self.now.net.prims (length self.now.net.prims) }
+    {
+        self.numbers.choices
     }
 
     /// The number of the pair of queue `q` and colour `d` of its output, among all queue pairs.

@@ -5,17 +5,19 @@ ghost use Rattle.xm_colours.specs.Family.{colours_at};
 ghost use Rattle.xm_colours.specs.Pairs.{queue_pairs_at};
 ghost use Rattle.xm_design.specs.Numbers.{ArePairsBelow, IsOracles};
 ghost use Rattle.xm_model.specs.Component.{component_of};
-ghost use Rattle.xm_model.specs.Lists.{is_oracle};
+ghost use Rattle.xm_model.specs.Lists.{is_oracle, oracles_below};
 
 use std::alloc::Global;
 use xm_colours::Colours;
 use xm_model::{List, Net, OutOfMemory, Prim};
 
-/// For each primitive, how many sources and sinks stand below it, and how many queue pairs.
+/// For each primitive, how many sources and sinks stand below it, and how many queue pairs; and how many
+/// sources and sinks there are.
 #[derive(Drop)]
 pub struct Numbers {
     pub oracles: List<u32>,
     pub pairs: List<u32>,
+    pub choices: u32,
 }
 
 /// How many choices a primitive has in a cycle.
@@ -42,6 +44,7 @@ fn queue_pairs(prim: &Prim, colours: &Colours) -> u32
 /// The numbers of a net with these colours.
 pub fn numbers_of(alloc: Global, net: &Net, colours: &Colours) -> Result<Numbers, OutOfMemory>
     ensures oracles { IfOk result (λ numbers. IsOracles net.now.prims numbers.oracles.items) }
+    ensures choices { IfOk result (λ numbers. numbers.choices ≡ oracles_below net.now.prims (length net.now.prims)) }
     ensures pairs { IfOk result (λ numbers. ArePairsBelow (colours_at colours.now) net.now.prims numbers.pairs.items) }
 {
     let prims = net.prims().as_slice();
@@ -56,5 +59,9 @@ pub fn numbers_of(alloc: Global, net: &Net, colours: &Colours) -> Result<Numbers
         choices_below += choices(prim);
         pairs_below += queue_pairs(prim, colours);
     }
-    Ok(Numbers { oracles, pairs })
+    Ok(Numbers {
+        oracles,
+        pairs,
+        choices: choices_below,
+    })
 }

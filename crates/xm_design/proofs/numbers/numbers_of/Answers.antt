@@ -61,3 +61,9 @@ returns-clause-pairs c =
     let same : map component_of c.as_slice-prims.result.now ≡ c.args.net.now.prims = ap (map component_of) c.as_slice-prims.ensures ∙ c.prims.ensures.prims in
     let end : c.loop-p.p ≡ length (map component_of c.as_slice-prims.result.now) = omega (arith, length-map c.as_slice-prims.result.now component_of, c.loop-p-test.false, c.loop-p.auto.p-end) in
     rw (← same) (record { below = rw end at c.loop-p.invariant.pairs; few = λ p h. c.loop-p.invariant.few p (omega (arith, h, end)) })
+
+pub returns-clause-choices : goal.returns-clause-choices
+returns-clause-choices c =
+    let same : map component_of c.as_slice-prims.result.now ≡ c.args.net.now.prims = ap (map component_of) c.as_slice-prims.ensures ∙ c.prims.ensures.prims in
+    let end : c.loop-p.p ≡ length (map component_of c.as_slice-prims.result.now) = omega (arith, length-map c.as_slice-prims.result.now component_of, c.loop-p-test.false, c.loop-p.auto.p-end) in
+    rw (← same) (c.loop-p.invariant.choices ∙ ap (oracles_below (map component_of c.as_slice-prims.result.now)) end)

@@ -3,6 +3,7 @@ use Rattle.xm_design.proofs.design.Design.new.Goals as goal
 pub invariant_of-result : goal.invariant_of-result
 invariant_of-result c = record {
   designed = record { net = c.channels-channels.ensures.net; colours = c.in_ok-colours.ensures.colours; whole = c.in_ok-colours.ensures.whole; order = c.in-Ok.ensures.ok };
+  count = c.in_ok-numbers.ensures.choices;
   oracles = c.in_ok-numbers.ensures.oracles;
   pairs = c.in_ok-numbers.ensures.pairs;
 }

@@ -1,0 +1,235 @@
+//! The lines of error, one for each cause of refusal.
+
+ghost use Rattle.std.specs.Prelude.{◌≡◌, ◌++◌, ◌==◌, [], if◌then◌else◌, codes, IfOk, OnOk, Some};
+ghost use Rattle.xm_model.specs.Lines.{line};
+ghost use Rattle.xm_model.specs.Naming.{naming_of};
+ghost use Rattle.xm_report.specs.Lines as spec;
+ghost use Rattle.xm_report.specs.Lines.{channel_fault, pair_fault, path_line, signal_text, signals_text, which_text};
+ghost use Rattle.xm_report.specs.Seen.{document_fault, tape_fault};
+
+use crate::pieces::{push_count, push_name};
+use std::alloc::Global;
+use xm_model::{Names, OutOfMemory, Text, WiringFault};
+use xm_netlist::{DocFault, Which};
+use xm_order::Signal;
+use xm_tape::TapeFault;
+
+/// The line of a fault at channel `c`.
+fn channel_line(alloc: Global, names: &Names, word: &[u8], c: u32) -> Result<Text, OutOfMemory>
+    ensures { IfOk result (λ text. text.items ≡ channel_fault (naming_of names.now) word.now c) }
+{
+    let mut text = Text::new(alloc);
+    text.push_bytes(b"net: ")?;
+    text.push_bytes(word)?;
+    text.push_bytes(b" ")?;
+    push_name(&mut text, names.channels.as_slice(), c as usize)?;
+    text.push_bytes(b"\n")?;
+    Ok(text)
+}
+
+/// The line of two primitives at channel `c`.
+fn pair_line(
+    alloc: Global,
+    names: &Names,
+    word: &[u8],
+    c: u32,
+    p: u32,
+    q: u32,
+) -> Result<Text, OutOfMemory>
+    ensures { IfOk result (λ text. text.items ≡ pair_fault (naming_of names.now) word.now c p q) }
+{
+    let mut text = Text::new(alloc);
+    text.push_bytes(b"net: ")?;
+    text.push_bytes(word)?;
+    text.push_bytes(b" ")?;
+    push_name(&mut text, names.channels.as_slice(), c as usize)?;
+    text.push_bytes(b" ")?;
+    push_name(&mut text, names.prims.as_slice(), p as usize)?;
+    text.push_bytes(b" ")?;
+    push_name(&mut text, names.prims.as_slice(), q as usize)?;
+    text.push_bytes(b"\n")?;
+    Ok(text)
+}
+
+/// The line of a net that is not well wired.
+pub fn wiring_line(alloc: Global, names: &Names, fault: WiringFault) -> Result<Text, OutOfMemory>
+    ensures { IfOk result (λ text. text.items ≡ spec.wiring_line (naming_of names.now) fault) }
+{
+    match fault {
+        WiringFault::NoInitiator(c) => channel_line(alloc, names, b"no initiator", c),
+        WiringFault::TwoInitiators(c, p, q) => pair_line(alloc, names, b"two initiators", c, p, q),
+        WiringFault::NoTarget(c) => channel_line(alloc, names, b"no target", c),
+        WiringFault::TwoTargets(c, p, q) => pair_line(alloc, names, b"two targets", c, p, q),
+    }
+}
+
+/// The line of a pair that the list of allowed colours refuses.
+pub fn colour_line(alloc: Global, names: &Names, c: u32, d: u8) -> Result<Text, OutOfMemory>
+    ensures { IfOk result (λ text. text.items ≡ spec.colour_line (naming_of names.now) c d) }
+{
+    let mut text = Text::new(alloc);
+    text.push_bytes(b"net: colour ")?;
+    push_name(&mut text, names.channels.as_slice(), c as usize)?;
+    text.push_bytes(b" ")?;
+    push_name(&mut text, names.colours.as_slice(), usize::from(d))?;
+    text.push_bytes(b"\n")?;
+    Ok(text)
+}
+
+fn push_signal(text: &mut Text, names: &Names, it: Signal) -> Result<(), OutOfMemory>
+    ensures { OnOk result (text.new.items ≡ text.old.items ++ signal_text (naming_of names.now) it) }
+{
+    let c = match it {
+        Signal::Offer(c) => {
+            text.push_bytes(b"offer ")?;
+            c
+        }
+        Signal::Ready(c) => {
+            text.push_bytes(b"ready ")?;
+            c
+        }
+    };
+    push_name(text, names.channels.as_slice(), c as usize)
+}
+
+/// Appends a comma and a space, but before the first.
+fn push_comma(text: &mut Text, k: usize) -> Result<(), OutOfMemory>
+    ensures { OnOk result (text.new.items ≡ text.old.items ++ (if k == 0 then [] else codes ", ")) }
+{
+    if k == 0 {
+        return Ok(());
+    }
+    text.push_bytes(b", ")
+}
+
+fn push_signals(text: &mut Text, names: &Names, signals: &[Signal]) -> Result<(), OutOfMemory>
+    ensures { OnOk result (text.new.items ≡ text.old.items ++ signals_text (naming_of names.now) signals.now) }
+{
+    for k in 0..signals.len() {
+        push_comma(text, k)?;
+        push_signal(text, names, signals[k])?;
+    }
+    Ok(())
+}
+
+/// The line of a loop of the dependence.
+pub fn loop_line(alloc: Global, names: &Names, found: &[Signal]) -> Result<Text, OutOfMemory>
+    ensures { IfOk result (λ text. text.items ≡ spec.loop_line (naming_of names.now) found.now) }
+{
+    let mut text = Text::new(alloc);
+    text.push_bytes(b"net: loop ")?;
+    push_signals(&mut text, names, found)?;
+    text.push_bytes(b"\n")?;
+    Ok(text)
+}
+
+/// The line of a word and a path.
+fn fault_at(alloc: Global, word: &[u8], path: &Text) -> Result<Text, OutOfMemory>
+    ensures { IfOk result (λ text. text.items ≡ path_line word.now path.now.items) }
+{
+    let mut text = Text::new(alloc);
+    text.push_bytes(word)?;
+    text.push_bytes(b" ")?;
+    text.push_bytes(path.as_bytes())?;
+    text.push_bytes(b"\n")?;
+    Ok(text)
+}
+
+fn word_of(which: Which) -> &'static [u8]
+    ensures { result.now ≡ which_text which }
+{
+    match which {
+        Which::Colours => b"colours",
+        Which::Primitives => b"primitives",
+        Which::Channels => b"channels",
+        Which::SourceColours => b"source-colours",
+        Which::Capacity => b"capacity",
+        Which::CapacitySum => b"capacity-sum",
+        Which::Initial => b"initial",
+    }
+}
+
+fn limit_line(alloc: Global, which: Which, count: u64) -> Result<Text, OutOfMemory>
+    ensures { IfOk result (λ text. text.items ≡ spec.limit_line which count) }
+{
+    let mut text = Text::new(alloc);
+    text.push_bytes(b"document: limit ")?;
+    text.push_bytes(word_of(which))?;
+    text.push_bytes(b" ")?;
+    push_count(&mut text, count)?;
+    text.push_bytes(b"\n")?;
+    Ok(text)
+}
+
+/// One piece of bytes as a text.
+fn text_of(alloc: Global, bytes: &[u8]) -> Result<Text, OutOfMemory>
+    ensures { IfOk result (λ text. text.items ≡ bytes.now) }
+{
+    let mut text = Text::new(alloc);
+    text.push_bytes(bytes)?;
+    Ok(text)
+}
+
+/// The line of a document's first fault. (Of want of memory no clause speaks.)
+pub fn document_line(alloc: Global, fault: &DocFault) -> Result<Text, OutOfMemory>
+    ensures { (it : _) → document_fault fault.now ≡ Some it → IfOk result (λ text. text.items ≡ spec.document_line it) }
+{
+    match fault {
+        DocFault::NotJson => text_of(alloc, b"document: not JSON\n"),
+        DocFault::Shape(path) => fault_at(alloc, b"document: shape", path),
+        DocFault::UnknownKind(path) => fault_at(alloc, b"document: unknown kind", path),
+        DocFault::UnknownColour(path) => fault_at(alloc, b"document: unknown colour", path),
+        DocFault::BadName(path) => fault_at(alloc, b"document: bad name", path),
+        DocFault::SameName(path) => fault_at(alloc, b"document: same name", path),
+        DocFault::Limit(which, count) => limit_line(alloc, *which, *count),
+        DocFault::Wiring(fault, names) => wiring_line(alloc, names, *fault),
+        DocFault::OutOfMemory => text_of(alloc, b"memory\n"),
+    }
+}
+
+fn row_line(alloc: Global, row: u32, bytes: u64) -> Result<Text, OutOfMemory>
+    ensures { IfOk result (λ text. text.items ≡ spec.row_line row bytes) }
+{
+    let mut text = Text::new(alloc);
+    text.push_bytes(b"tape: row ")?;
+    push_count(&mut text, u64::from(row))?;
+    text.push_bytes(b" length ")?;
+    push_count(&mut text, bytes)?;
+    text.push_bytes(b"\n")?;
+    Ok(text)
+}
+
+fn mark_line(alloc: Global, row: u32, oracle: u32) -> Result<Text, OutOfMemory>
+    ensures { IfOk result (λ text. text.items ≡ spec.mark_line row oracle) }
+{
+    let mut text = Text::new(alloc);
+    text.push_bytes(b"tape: mark ")?;
+    push_count(&mut text, u64::from(row))?;
+    text.push_bytes(b" ")?;
+    push_count(&mut text, u64::from(oracle))?;
+    text.push_bytes(b"\n")?;
+    Ok(text)
+}
+
+fn cycles_line(alloc: Global, count: u64) -> Result<Text, OutOfMemory>
+    ensures { IfOk result (λ text. text.items ≡ spec.cycles_line count) }
+{
+    let mut text = Text::new(alloc);
+    text.push_bytes(b"tape: limit ")?;
+    push_count(&mut text, count)?;
+    text.push_bytes(b"\n")?;
+    Ok(text)
+}
+
+/// The line of a tape's first fault. (Of want of memory no clause speaks.)
+pub fn tape_line(alloc: Global, fault: &TapeFault) -> Result<Text, OutOfMemory>
+    ensures { (it : _) → tape_fault fault.now ≡ Some it → IfOk result (λ text. text.items ≡ spec.tape_line it) }
+{
+    match fault {
+        TapeFault::TapeShape(path) => fault_at(alloc, b"tape: shape", path),
+        TapeFault::TapeLimit(count) => cycles_line(alloc, *count),
+        TapeFault::RowLength(row, bytes) => row_line(alloc, *row, *bytes),
+        TapeFault::BadMark(row, oracle) => mark_line(alloc, *row, *oracle),
+        TapeFault::OutOfMemory => text_of(alloc, b"memory\n"),
+    }
+}
