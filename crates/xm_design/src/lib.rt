@@ -9,3 +9,6 @@ mod numbers;
 pub use design::Design;
 pub use fault::NetFault;
 pub use laws::{colours_hold, fits_hold, fits_next};
+
+#[cfg(test)]
+mod tests;

@@ -3,18 +3,13 @@ use Rattle.std.proofs.Common.{◌≡◌, ℕ, ◌+◌, ◌-◌, ◌<◌, ◌≤�
 use Rattle.std.specs.Io.KnownBytes.{Appends, Consumes}
 use Rattle.std.proofs.lemmas.List.{take_all, take_at, drop-drop, take-append-drop, length-take-le, length-drop, drop_all}
 use Rattle.std.proofs.Math.Seq.{take-add}
+use Rattle.xm_io.specs.Appending.{Appends-then}
 
 pub Consumes-then : (a b c : Option (List ℕ)) (x y : List ℕ) → Consumes a b x → Consumes b c y → Consumes a c (x ++ y)
 Consumes-then None b c x y p q = tt
 Consumes-then (Some a) None c x y p q = absurd p
 Consumes-then (Some a) (Some b) None x y p q = absurd q
 Consumes-then (Some a) (Some b) (Some c) x y p q = p ∙ ap (λ (r : List ℕ). x ++ r) q ∙ sym (append_assoc x y c)
-
-pub Appends-then : (a b c : Option (List ℕ)) (x y : List ℕ) → Appends a b x → Appends b c y → Appends a c (x ++ y)
-Appends-then None b c x y p q = tt
-Appends-then (Some a) None c x y p q = absurd p
-Appends-then (Some a) (Some b) None x y p q = absurd q
-Appends-then (Some a) (Some b) (Some c) x y p q = q ∙ ap (λ (r : List ℕ). r ++ y) p ∙ append_assoc a x y
 
 rest_is : (text : List ℕ) (done : ℕ) → take (length text - done) (drop done text) ≡ drop done text
 rest_is text done = take_all _ _ (omega (arith, length-drop done text))

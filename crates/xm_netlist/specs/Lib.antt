@@ -3,11 +3,17 @@ pub mod Draft
 pub mod Drafted
 pub mod Fault
 pub mod Gives
+pub mod Kinds
+pub mod Making
 pub mod Names
 pub mod Numbered
+pub mod Placed
+pub mod Ported
 pub mod Reading
 pub mod Shape
+pub mod Spelling
 pub mod Steps
+pub mod Tested
 pub mod Tests
 pub mod Valid
 pub mod Writing

@@ -54,15 +54,28 @@ one_more sums channels k c d place below within whole is c' d' below' within' =
       | inr differs ↦ elsewhere sums k c d c' d' _ (nat_eq c c' && nat_eq d d') within within' (inl differs) (rw (ne_eqb c c' differs) refl)
     ])
 
+pub at_most_one : (b : Bool) → cond b 1 0 ≤ 1
+at_most_one true = omega arith
+at_most_one false = omega arith
+
 sum-snoc : (ms : List Move) (m : Move) (c d : ℕ) → sum_in (ms ++ m ∷ []) c d ≡ cond (nat_eq m.channel c && nat_eq m.colour d) 1 0 + sum_in ms c d
 sum-snoc [] m c d = refl
 sum-snoc (x ∷ ms) m c d = let rest = sum-snoc ms m c d in omega (arith, rest)
 
 -- the sum of one more move
-pub sum_more : (moves : List Move) (i c d : ℕ) (e : Move) (old new : ℕ) → i < length moves → new ≡ cond (nat_eq (get_or moves i e).channel c && nat_eq (get_or moves i e).colour d) 1 0 + old → old ≡ sum_in (take i moves) c d
-    → new ≡ sum_in (take (i + 1) moves) c d
-sum_more moves i c d e old new below step so_far =
-    rw (take_more moves i e below) (step ∙ ap (λ (n : ℕ). cond (nat_eq (get_or moves i e).channel c && nat_eq (get_or moves i e).colour d) 1 0 + n) so_far ∙ sym (sum-snoc (take i moves) (get_or moves i e) c d))
+pub sum_more : (moves : List Move) (i c d : ℕ) (e : Move) (base old new : ℕ) → i < length moves → new ≡ cond (nat_eq (get_or moves i e).channel c && nat_eq (get_or moves i e).colour d) 1 0 + old → old ≡ sum_in (take i moves) c d + base
+    → new ≡ sum_in (take (i + 1) moves) c d + base
+sum_more moves i c d e base old new below step so_far =
+    let more = sum-snoc (take i moves) (get_or moves i e) c d in
+    rw (take_more moves i e below) (omega (arith, more))
+
+-- a sum is at most the number of moves
+pub sum_few : (ms : List Move) (c d : ℕ) → sum_in ms c d ≤ length ms
+sum_few [] c d = omega arith
+sum_few (m ∷ ms) c d =
+    let rest = sum_few ms c d in
+    let one = at_most_one (nat_eq m.channel c && nat_eq m.colour d) in
+    omega (arith, rest, one)
 
 -- what is read past the end
 abbrev pub no_move : Move

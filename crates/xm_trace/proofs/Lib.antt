@@ -1,3 +1,4 @@
-pub mod Running
-pub mod Lines
 pub mod Counting
+pub mod Lines
+pub mod Running
+pub mod Telling

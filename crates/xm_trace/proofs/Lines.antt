@@ -1,15 +1,18 @@
 -- The moves of a cycle among those of a run, and the sums of a run's moves.
-use Rattle.std.proofs.Common.{◌≡◌, ◌≢◌, ℕ, zero, suc, ◌<◌, ◌≤◌, ◌+◌, ◌-◌, Bool, cond, List, [], ◌∷◌, ◌++◌, length, take, drop, Option, Some, None, refl, sym, ap, ap₂, subst, ◌∙◌, add-one, append_assoc, append-nil, arith, inl, inr, eq-eqb, ne_eqb, length-append}
+use Rattle.std.proofs.Common.{◌≡◌, ◌≢◌, ℕ, zero, suc, ◌<◌, ◌≤◌, ◌+◌, ◌-◌, Bool, cond, List, [], ◌∷◌, ◌++◌, length, take, drop, decimal, Option, Some, None, refl, sym, ap, ap₂, subst, ◌∙◌, add-one, add-suc, zero-add, append_assoc, append-nil, arith, inl, inr, eq-eqb, ne_eqb, length-append}
 use Rattle.std.specs.Prelude.{◌==◌}
-use Rattle.std.specs.List.{prefix_len}
+use Rattle.std.specs.List.{flat_map, prefix_len}
 use Rattle.std.proofs.lemmas.Bool.{cases_eq}
 use Rattle.xm_model.specs.Next.{move}
 use Rattle.xm_model.specs.Run.{is_offer, moves}
 use Rattle.xm_model.specs.Signals.{Signals}
-use Rattle.xm_trace.specs.Moves.{cycle_moves, moved_on, run_moves}
+use Rattle.xm_trace.proofs.Counting.{at_most_one}
+use Rattle.xm_trace.specs.Moves.{cycle_moves, moved_on, round_moves, run_moves}
+use Rattle.xm_model.specs.Lines.{line}
 use Rattle.xm_model.specs.Naming.{Naming}
+use Rattle.xm_trace.specs.Rounds.{RoundsJoin}
 use Rattle.xm_trace.specs.Sums.{sum_at, sum_in}
-use Rattle.xm_trace.specs.Text.{channel_sums, cycle_lines, end_line, run_text, sum_line, sum_lines}
+use Rattle.xm_trace.specs.Text.{channel_sums, cycle_line, cycle_lines, end_line, end_text, move_text, round_lines, run_text, sum_line, sum_lines}
 use Rattle.xm_trace.specs.declared.trace.Move.{Move}
 
 abbrev is_of : ℕ → Move → Bool
@@ -53,35 +56,35 @@ front_all : (t : ℕ) (xs ys : List Move) → AllOf t xs → NoneOf t ys → pre
 front_all t [] ys h k = front_none t ys k
 front_all t (x ∷ xs) ys h k = rw (eq-eqb x.cycle t h.0, front_all t xs ys h.1 k) (omega arith)
 
--- the moves after those of cycle t
-pub record Parted (φ : ℕ → Signals) (n t cycles : ℕ) : Type 0 where
+-- the moves after those of cycle number k of the round
+pub record Parted (φ : ℕ → Signals) (n from k cycles : ℕ) : Type 0 where
   pub later : List Move
-  pub parts : run_moves φ n cycles ≡ run_moves φ n t ++ (cycle_moves (φ t) t n ++ later)
-  pub others : NoneOf t later
+  pub parts : round_moves φ n from cycles ≡ round_moves φ n from k ++ (cycle_moves (φ (from + k)) (from + k) n ++ later)
+  pub others : NoneOf (from + k) later
 
-parted : (φ : ℕ → Signals) (n t k : ℕ) → Parted φ n t (suc (t + k))
-parted φ n t zero = record {
+parted : (φ : ℕ → Signals) (n from k j : ℕ) → Parted φ n from k (suc (k + j))
+parted φ n from k zero = record {
   later = [];
-  parts = rw (append-nil (cycle_moves (φ t) t n)) (ap (λ (i : ℕ). run_moves φ n (suc i)) (let e : t + 0 ≡ t = omega arith in e));
+  parts = rw (append-nil (cycle_moves (φ (from + k)) (from + k) n)) (ap (λ (i : ℕ). round_moves φ n from (suc i)) (let e : k + 0 ≡ k = omega arith in e));
   others = tt;
 }
-parted φ n t (suc k) =
-    let before = parted φ n t k in
-    let i = suc (t + k) in
-    let last = cycle_moves (φ i) i n in
+parted φ n from k (suc j) =
+    let before = parted φ n from k j in
+    let i = suc (k + j) in
+    let last = cycle_moves (φ (from + i)) (from + i) n in
     record {
       later = before.later ++ last;
       parts =
-          ap (λ (j : ℕ). run_moves φ n (suc j)) (let e : t + suc k ≡ suc (t + k) = omega arith in e)
+          ap (λ (m : ℕ). round_moves φ n from (suc m)) (let e : k + suc j ≡ suc (k + j) = omega arith in e)
           ∙ ap (λ (xs : List Move). xs ++ last) before.parts
-          ∙ append_assoc (run_moves φ n t) (cycle_moves (φ t) t n ++ before.later) last
-          ∙ ap (λ (xs : List Move). run_moves φ n t ++ xs) (append_assoc (cycle_moves (φ t) t n) before.later last);
-      others = none_append t before.later last before.others (none_from_all t i last (λ same. absurd (omega (arith, same))) (all_cycle (φ i) i n));
+          ∙ append_assoc (round_moves φ n from k) (cycle_moves (φ (from + k)) (from + k) n ++ before.later) last
+          ∙ ap (λ (xs : List Move). round_moves φ n from k ++ xs) (append_assoc (cycle_moves (φ (from + k)) (from + k) n) before.later last);
+      others = none_append (from + k) before.later last before.others (none_from_all (from + k) (from + i) last (λ same. absurd (omega (arith, same))) (all_cycle (φ (from + i)) (from + i) n));
     }
 
-pub parted_at : (φ : ℕ → Signals) (n t cycles : ℕ) → t < cycles → Parted φ n t cycles
-parted_at φ n t cycles below =
-    subst (λ (m : ℕ). Parted φ n t m) (let e : suc (t + (cycles - suc t)) ≡ cycles = omega arith in e) (parted φ n t (cycles - suc t))
+pub parted_at : (φ : ℕ → Signals) (n from k cycles : ℕ) → k < cycles → Parted φ n from k cycles
+parted_at φ n from k cycles below =
+    subst (λ (m : ℕ). Parted φ n from k m) (let e : suc (k + (cycles - suc k)) ≡ cycles = omega arith in e) (parted φ n from k (cycles - suc k))
 
 drop_front : {X : Type 0} (xs ys : List X) (n : ℕ) → n ≡ length xs → drop n (xs ++ ys) ≡ ys
 drop_front [] ys zero h = refl
@@ -96,27 +99,38 @@ take_front [] ys (suc n) h = absurd (omega arith)
 take_front (x ∷ xs) ys zero h = absurd (omega arith)
 take_front {X} (x ∷ xs) ys (suc n) h = ap (λ (zs : List X). x ∷ zs) (take_front xs ys n (omega arith))
 
--- The moves that stand from the end of the earlier cycles to the end of the moves of cycle t are those of cycle t.
-module _ (φ : ℕ → Signals) (n t cycles : ℕ) (below : t < cycles) (all : List Move) (is : all ≡ run_moves φ n cycles) (from end : ℕ) (start : from ≡ length (run_moves φ n t))
-    (stop : end ≡ from + prefix_len (is_of t) (drop from all)) where
-  rest : drop from all ≡ cycle_moves (φ t) t n ++ (parted_at φ n t cycles below).later
+-- The moves that stand from the end of the earlier cycles of the round to the end of the moves of cycle t are those of cycle t.
+module _ (φ : ℕ → Signals) (n from k cycles t : ℕ) (below : k < cycles) (now : t ≡ from + k) (all : List Move) (is : all ≡ round_moves φ n from cycles) (start end : ℕ)
+    (begin : start ≡ length (round_moves φ n from k)) (stop : end ≡ start + prefix_len (is_of t) (drop start all)) where
+  rest : drop start all ≡ cycle_moves (φ (from + k)) (from + k) n ++ (parted_at φ n from k cycles below).later
   rest =
-      let p = parted_at φ n t cycles below in
-      ap (drop from) (is ∙ p.parts) ∙ drop_front (run_moves φ n t) (cycle_moves (φ t) t n ++ p.later) from start
+      let p = parted_at φ n from k cycles below in
+      ap (drop start) (is ∙ p.parts) ∙ drop_front (round_moves φ n from k) (cycle_moves (φ (from + k)) (from + k) n ++ p.later) start begin
 
-  count : end ≡ from + length (cycle_moves (φ t) t n)
+  count : end ≡ start + length (cycle_moves (φ (from + k)) (from + k) n)
   count =
-      let p = parted_at φ n t cycles below in
-      stop ∙ ap (λ (k : ℕ). from + k) (ap (prefix_len (is_of t)) rest ∙ front_all t (cycle_moves (φ t) t n) p.later (all_cycle (φ t) t n) p.others)
+      let p = parted_at φ n from k cycles below in
+      stop ∙ ap (λ (i : ℕ). start + i) (ap (λ (i : ℕ). prefix_len (is_of i) (drop start all)) now
+      ∙ ap (prefix_len (is_of (from + k))) rest
+      ∙ front_all (from + k) (cycle_moves (φ (from + k)) (from + k) n) p.later (all_cycle (φ (from + k)) (from + k) n) p.others)
 
-  pub moves_of_cycle : take (end - from) (drop from all) ≡ cycle_moves (φ t) t n
+  pub moves_of_cycle : take (end - start) (drop start all) ≡ cycle_moves (φ (from + k)) (from + k) n
   moves_of_cycle =
-      let p = parted_at φ n t cycles below in
-      let many : end - from ≡ length (cycle_moves (φ t) t n) = omega (arith, count) in
-      ap (take (end - from)) rest ∙ take_front (cycle_moves (φ t) t n) p.later (end - from) many
+      let p = parted_at φ n from k cycles below in
+      let many : end - start ≡ length (cycle_moves (φ (from + k)) (from + k) n) = omega (arith, count) in
+      ap (take (end - start)) rest ∙ take_front (cycle_moves (φ (from + k)) (from + k) n) p.later (end - start) many
 
-  pub ends_there : end ≡ length (run_moves φ n (t + 1))
-  ends_there = rw add-one (omega (arith, count, length-append (run_moves φ n t) (cycle_moves (φ t) t n)))
+  pub ends_there : end ≡ length (round_moves φ n from (k + 1))
+  ends_there = rw add-one (omega (arith, count, length-append (round_moves φ n from k) (cycle_moves (φ (from + k)) (from + k) n)))
+
+  -- the text with the line of the cycle
+  pub line_more : (names : Naming) → length names.channels ≡ n → (begun before after : List ℕ) → before ≡ begun ++ round_lines names φ from k
+      → after ≡ before ++ line (decimal t ++ flat_map (move_text names) (take (end - start) (drop start all))) → after ≡ begun ++ round_lines names φ from (k + 1)
+  line_more names many begun before after so_far more =
+      rw add-one (more
+      ∙ ap₂ (λ (x y : List ℕ). x ++ y) so_far (ap₂ (λ (i : ℕ) (ms : List Move). line (decimal i ++ flat_map (move_text names) ms)) now
+      (moves_of_cycle ∙ ap (cycle_moves (φ (from + k)) (from + k)) (sym many)))
+      ∙ append_assoc begun (round_lines names φ from k) (cycle_line names φ (from + k)))
 
 -- ---- sums
 
@@ -153,31 +167,83 @@ sum_cycle φ t (suc b) c d below =
           sum-append (cycle_moves φ t b) (moved_on t b (move φ b)) c d ∙ ap₂ (λ (x y : ℕ). x + y) one two ∙ omega arith
     ]
 
--- the sums of a run's moves are the counts of its moves
-pub sum_run : (φ : ℕ → Signals) (n cycles c d : ℕ) → c < n → sum_in (run_moves φ n cycles) c d ≡ moves φ c d cycles
-sum_run φ n zero c d below = refl
-sum_run φ n (suc t) c d below =
-    sum-append (run_moves φ n t) (cycle_moves (φ t) t n) c d
-    ∙ ap₂ (λ (x y : ℕ). x + y) (sum_run φ n t c d below) (sum_cycle (φ t) t n c d below)
+-- with the sums of a round's moves, the counts go on
+pub sum_round : (φ : ℕ → Signals) (n from k c d : ℕ) → c < n → sum_in (round_moves φ n from k) c d + moves φ c d from ≡ moves φ c d (from + k)
+sum_round φ n from zero c d below =
+    let same : from + 0 ≡ from = omega arith in
+    rw same (zero-add (moves φ c d from))
+sum_round φ n from (suc k) c d below =
+    let before = sum_round φ n from k c d below in
+    let both = sum-append (round_moves φ n from k) (cycle_moves (φ (from + k)) (from + k) n) c d in
+    let last = sum_cycle (φ (from + k)) (from + k) n c d below in
+    let next : moves φ c d (from + suc k) ≡ moves φ c d (from + k) + cond (is_offer d (move (φ (from + k)) c)) 1 0 = rw (add-suc from k) refl in
+    omega (arith, before, both, last, next)
 
--- ---- the whole text
+-- the sums of all moves are their counts
+pub sum_all : (φ : ℕ → Signals) (n k c d : ℕ) → c < n → sum_in (round_moves φ n 0 k) c d ≡ moves φ c d k
+sum_all φ n k c d below =
+    let all = sum_round φ n 0 k c d below in
+    let same = ap (moves φ c d) (zero-add k) in
+    omega (arith, all, same)
+
+-- a colour moves at most once a cycle
+pub moves_few : (φ : ℕ → Signals) (c d t : ℕ) → moves φ c d t ≤ t
+moves_few φ c d zero = omega arith
+moves_few φ c d (suc t) =
+    let before = moves_few φ c d t in
+    let one = at_most_one (is_offer d (move (φ t) c)) in
+    omega (arith, before, one)
+
+-- one round may be the whole run
+pub whole_round : (φ : ℕ → Signals) (n k : ℕ) → run_moves φ n k ≡ round_moves φ n 0 k
+whole_round φ n zero = refl
+whole_round φ n (suc k) = ap₂ (λ (xs ys : List Move). xs ++ ys) (whole_round φ n k) (ap (λ (i : ℕ). cycle_moves (φ i) i n) (sym (zero-add k)))
+
+-- ---- lines
+
+pub all_lines : (names : Naming) (φ : ℕ → Signals) (n : ℕ) → round_lines names φ 0 n ≡ cycle_lines names φ n
+all_lines names φ zero = refl
+all_lines names φ (suc n) = ap₂ (λ (x y : List ℕ). x ++ y) (all_lines names φ n) (ap (cycle_line names φ) (zero-add n))
+
+joined_lines : (names : Naming) (φ : ℕ → Signals) (from n m : ℕ) → round_lines names φ from (n + m) ≡ round_lines names φ from n ++ round_lines names φ (from + n) m
+joined_lines names φ from n zero =
+    let same : n + 0 ≡ n = omega arith in
+    rw same (sym (append-nil (round_lines names φ from n)))
+joined_lines names φ from n (suc m) =
+    let later : from + (n + m) ≡ from + n + m = omega arith in
+    rw (add-suc n m) (ap₂ (λ (x y : List ℕ). x ++ y) (joined_lines names φ from n m) (ap (cycle_line names φ) later)
+    ∙ append_assoc (round_lines names φ from n) (round_lines names φ (from + n) m) (cycle_line names φ (from + n + m)))
+
+ended_lines : (names : Naming) (φ : ℕ → Signals) (n : ℕ) → run_text names φ n ≡ round_lines names φ 0 n ++ end_text names φ n
+ended_lines names φ n =
+    append_assoc (cycle_lines names φ n) (sum_lines names (λ c d. moves φ c d n) (length names.channels)) (end_line n)
+    ∙ ap (λ (x : List ℕ). x ++ end_text names φ n) (sym (all_lines names φ n))
+
+pub rounds_join : RoundsJoin
+rounds_join = record { all = all_lines; joined = joined_lines; ended = ended_lines }
+
+-- ---- the end of the text
 
 channel_sums_same : (names : Naming) (f g : ℕ → ℕ → ℕ) (c k : ℕ) → ((d : ℕ) → d < k → f c d ≡ g c d) → channel_sums names f c k ≡ channel_sums names g c k
 channel_sums_same names f g c zero same = refl
 channel_sums_same names f g c (suc d) same =
     ap₂ (λ (x y : List ℕ). x ++ y) (channel_sums_same names f g c d (λ e h. same e (omega arith))) (ap (sum_line names c d) (same d (omega arith)))
 
-sum_lines_same : (names : Naming) (f g : ℕ → ℕ → ℕ) (n : ℕ) → ((c d : ℕ) → c < n → d < length names.colours → f c d ≡ g c d) → sum_lines names f n ≡ sum_lines names g n
+pub sum_lines_same : (names : Naming) (f g : ℕ → ℕ → ℕ) (n : ℕ) → ((c d : ℕ) → c < n → d < length names.colours → f c d ≡ g c d) → sum_lines names f n ≡ sum_lines names g n
 sum_lines_same names f g zero same = refl
 sum_lines_same names f g (suc c) same =
     ap₂ (λ (x y : List ℕ). x ++ y) (sum_lines_same names f g c (λ b d h. same b d (omega arith))) (channel_sums_same names f g c (length names.colours) (λ d. same c d (omega arith)))
 
--- the lines of the cycles, of these sums and of the end are the text of the run
-pub whole_text : (names : Naming) (φ : ℕ → Signals) (cycles : ℕ) (all : List Move) (sums : List ℕ) (begun cycled summed ended : List ℕ) → all ≡ run_moves φ (length names.channels) cycles →
-    ((c d : ℕ) → c < length names.channels → d < length names.colours → sum_at sums (length names.colours) c d ≡ sum_in all c d) → begun ≡ [] → cycled ≡ begun ++ cycle_lines names φ cycles →
-    summed ≡ cycled ++ sum_lines names (sum_at sums (length names.colours)) (length names.channels) → ended ≡ summed ++ end_line cycles → ended ≡ run_text names φ cycles
-whole_text names φ cycles all sums begun cycled summed ended is same empty a b e =
+-- the lines of all cycles, of these sums and of the end are the text of the run
+pub whole_text : (names : Naming) (φ : ℕ → Signals) (cycles : ℕ) (all : List Move) (sums : List ℕ) (begun lined ended : List ℕ) → all ≡ run_moves φ (length names.channels) cycles →
+    ((c d : ℕ) → c < length names.channels → d < length names.colours → sum_at sums (length names.colours) c d ≡ sum_in all c d) → begun ≡ [] →
+    (all ≡ round_moves φ (length names.channels) 0 cycles → lined ≡ begun ++ round_lines names φ 0 cycles) →
+    ended ≡ lined ++ (sum_lines names (sum_at sums (length names.colours)) (length names.channels) ++ end_line cycles) → ended ≡ run_text names φ cycles
+whole_text names φ cycles all sums begun lined ended is same empty lines rest =
     let n = length names.channels in
+    let round = is ∙ whole_round φ n cycles in
     let counted = sum_lines_same names (sum_at sums (length names.colours)) (λ c d. moves φ c d cycles) n
-    (λ c d h k. same c d h k ∙ ap (λ (ms : List Move). sum_in ms c d) is ∙ sum_run φ n cycles c d h) in
-    e ∙ ap (λ (x : List ℕ). x ++ end_line cycles) (b ∙ ap₂ (λ (x y : List ℕ). x ++ y) (a ∙ ap (λ (x : List ℕ). x ++ cycle_lines names φ cycles) empty) counted)
+    (λ c d h k. same c d h k ∙ ap (λ (ms : List Move). sum_in ms c d) round ∙ sum_all φ n cycles c d h) in
+    rest
+    ∙ ap₂ (λ (x y : List ℕ). x ++ (y ++ end_line cycles)) (lines round ∙ ap (λ (x : List ℕ). x ++ round_lines names φ 0 cycles) empty) counted
+    ∙ sym (ended_lines names φ cycles)

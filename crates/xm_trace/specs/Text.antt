@@ -1,7 +1,8 @@
 -- The text of a run: a line for each cycle, the sums of the moves, and the number of cycles.
-use Rattle.std.specs.Prelude.{◌≡◌, ℕ, zero, suc, ◌+◌, List, [], ◌∷◌, ◌++◌, length, slice_index_or, codes, decimal}
+use Rattle.std.specs.Prelude.{◌≡◌, ℕ, zero, suc, ◌+◌, List, [], ◌++◌, length, codes, decimal}
 use Rattle.std.specs.List.{flat_map}
 use Rattle.xm_model.specs.Component.{Content}
+use Rattle.xm_model.specs.Lines.{line, name_at}
 use Rattle.xm_model.specs.Naming.{Naming}
 use Rattle.xm_model.specs.Net.{Network}
 use Rattle.xm_model.specs.Run.{moves}
@@ -10,12 +11,6 @@ use Rattle.xm_trace.specs.Moves.{cycle_moves}
 use Rattle.xm_tape.specs.Taped.{Taped, cycles_of}
 use Rattle.xm_trace.specs.Runs.{IsRunOf}
 use Rattle.xm_trace.specs.declared.trace.Move.{Move}
-
-abbrev pub name_at : List (List ℕ) → ℕ → List ℕ
-name_at names i = slice_index_or names i []
-
-abbrev pub line : List ℕ → List ℕ
-line text = text ++ 10 ∷ []
 
 -- a space, the channel, a colon and the colour
 abbrev pub move_text : Naming → Move → List ℕ

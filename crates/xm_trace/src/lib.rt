@@ -1,12 +1,17 @@
-//! The run of a net under a tape: its moves, and its text.
+//! The run of a design under a tape: its moves, round by round, and its text.
 #![tactic(auto)]
 
+mod laws;
+mod run_text;
 mod sums;
 mod text;
+mod totals;
 mod trace;
 
+pub use laws::{rounds_follow, rounds_join};
+pub use run_text::{RunText, Total};
 pub use text::trace_text;
-pub use trace::{Move, Trace, run_all};
+pub use trace::{Move, Trace, run_all, run_round};
 
 #[cfg(test)]
 mod tests;

@@ -1,7 +1,8 @@
 //! How often each colour moves on each channel.
 
 ghost use Rattle.std.specs.Prelude.{◌≡◌, ℕ, ◌+◌, ◌-◌, ◌*◌, ◌^◌, ◌<◌, ◌≤◌, ◌&&◌, cond, length, nat_eq, slice_index, slice_index_or, IfOk};
-ghost use Rattle.xm_trace.specs.Sums.{AreSums, sum_at};
+ghost use Rattle.xm_trace.specs.Sums.{AreSums, sum_at, sum_in};
+ghost use Rattle.xm_trace.specs.Table.{IsTable};
 
 use crate::trace::Move;
 use std::alloc::Global;
@@ -9,12 +10,9 @@ use xm_model::{List, OutOfMemory};
 
 /// Adds one to the sum of the move's colour on its channel.
 fn count_move(sums: &mut [u64], channels: usize, colours: usize, it: Move)
-    requires channels { channels ≤ 8192 }
-    requires colours { colours ≤ 64 }
-    requires whole { length sums.old ≡ channels * colours }
-    requires room { (k : ℕ) → k < length sums.old → slice_index sums.old k < 2 ^ 63 }
-    ensures sums { (c d : ℕ) → c < channels → d < colours → sum_at sums.new colours c d ≡ cond (nat_eq it.channel c && nat_eq it.colour d) 1 0 + sum_at sums.old colours c d }
-    ensures few { (k : ℕ) → k < length sums.new → slice_index sums.new k ≤ slice_index sums.old k + 1 }
+    requires table { IsTable channels colours sums.old }
+    requires room { (c d : ℕ) → c < channels → d < colours → sum_at sums.old colours c d + 1 < 2 ^ 64 }
+    ensures { (c d : ℕ) → c < channels → d < colours → sum_at sums.new colours c d ≡ cond (nat_eq it.channel c && nat_eq it.colour d) 1 0 + sum_at sums.old colours c d }
 {
     let channel = it.channel as usize;
     let colour = usize::from(it.colour);
@@ -23,7 +21,8 @@ fn count_move(sums: &mut [u64], channels: usize, colours: usize, it: Move)
     }
 }
 
-fn no_sums(alloc: Global, count: u32) -> Result<List<u64>, OutOfMemory>
+/// So many sums, each 0.
+pub fn no_sums(alloc: Global, count: u32) -> Result<List<u64>, OutOfMemory>
     ensures len { IfOk result (λ sums. length sums.items ≡ count) }
     ensures zero { IfOk result (λ sums. (k : ℕ) → slice_index sums.items k ≡ 0) }
 {
@@ -36,19 +35,18 @@ fn no_sums(alloc: Global, count: u32) -> Result<List<u64>, OutOfMemory>
     Ok(sums)
 }
 
-fn count_moves(sums: &mut [u64], channels: usize, colours: usize, moves: &[Move])
-    requires channels { channels ≤ 8192 }
-    requires colours { colours ≤ 64 }
-    requires whole { length sums.old ≡ channels * colours }
-    requires zero { (k : ℕ) → slice_index sums.old k ≡ 0 }
-    ensures { AreSums channels colours moves.now sums.new }
+/// Adds the moves to the sums: that of colour `d` on channel `c` stands at `c * colours + d`.
+pub fn count_moves(sums: &mut [u64], channels: usize, colours: usize, moves: &[Move])
+    requires table { IsTable channels colours sums.old }
+    requires room { (c d : ℕ) → c < channels → d < colours → sum_at sums.old colours c d < 2 ^ 32 }
+    ensures { (c d : ℕ) → c < channels → d < colours → sum_at sums.new colours c d ≡ sum_in moves.now c d + sum_at sums.old colours c d }
 {
     for it in moves {
         count_move(sums, channels, colours, *it);
     }
 }
 
-/// The sums of the moves: that of colour `d` on channel `c` stands at `c * colours + d`.
+/// The sums of the moves.
 pub fn sums_of(
     alloc: Global,
     channels: usize,

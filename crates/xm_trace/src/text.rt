@@ -1,12 +1,14 @@
 //! The text of a run.
 
-ghost use Rattle.std.specs.Prelude.{◌≡◌, ℕ, ◌+◌, ◌*◌, ◌<◌, ◌≤◌, ◌==◌, ◌++◌, drop, decimal, length, IfOk, OnOk};
+ghost use Rattle.std.specs.Prelude.{◌≡◌, ℕ, ◌+◌, ◌*◌, ◌^◌, ◌<◌, ◌≤◌, ◌==◌, ◌++◌, drop, decimal, length, IfOk, OnOk};
 ghost use Rattle.std.specs.List.{flat_map, prefix_len};
+ghost use Rattle.xm_model.specs.Lines.{line, name_at};
 ghost use Rattle.xm_model.specs.Naming.{naming_of, texts_of};
 ghost use Rattle.xm_model.specs.Signals.{Signals};
-ghost use Rattle.xm_trace.specs.Moves.{run_moves};
+ghost use Rattle.xm_trace.specs.Moves.{round_moves, run_moves};
 ghost use Rattle.xm_trace.specs.Sums.{sum_at};
-ghost use Rattle.xm_trace.specs.Text.{channel_sums, cycle_lines, end_line, line, move_text, name_at, run_text, sum_line, sum_lines};
+ghost use Rattle.xm_trace.specs.Table.{IsTable};
+ghost use Rattle.xm_trace.specs.Text.{channel_sums, end_line, move_text, round_lines, run_text, sum_line, sum_lines};
 
 use crate::sums::sums_of;
 use crate::trace::{Move, Trace};
@@ -63,17 +65,24 @@ fn cycle_end(moves: &[Move], from: usize, t: u32) -> usize
     moves.len()
 }
 
-/// A line for each cycle.
-fn push_cycles(text: &mut Text, names: &Names, trace: &Trace) -> Result<(), OutOfMemory>
-    ensures { (φ : ℕ → Signals) → trace.now.moves.items ≡ run_moves φ (length (naming_of names.now).channels) trace.now.cycles
-        → OnOk result (text.new.items ≡ text.old.items ++ cycle_lines (naming_of names.now) φ trace.now.cycles) }
+/// A line for each cycle of the part, which begins with cycle `from`.
+pub fn push_round(
+    text: &mut Text,
+    names: &Names,
+    from: u32,
+    part: &Trace,
+) -> Result<(), OutOfMemory>
+    requires { from + part.now.cycles < 2 ^ 32 }
+    ensures { (φ : ℕ → Signals) → part.now.moves.items ≡ round_moves φ (length (naming_of names.now).channels) from part.now.cycles
+        → OnOk result (text.new.items ≡ text.old.items ++ round_lines (naming_of names.now) φ from part.now.cycles) }
 {
-    let moves = trace.moves.as_slice();
-    let mut from = 0;
-    for t in 0..trace.cycles {
-        let end = cycle_end(moves, from, t);
-        push_cycle(text, names, t, &moves[from..end])?;
-        from = end;
+    let moves = part.moves.as_slice();
+    let mut start = 0;
+    for k in 0..part.cycles {
+        let t = from + k;
+        let end = cycle_end(moves, start, t);
+        push_cycle(text, names, t, &moves[start..end])?;
+        start = end;
     }
     Ok(())
 }
@@ -95,10 +104,8 @@ fn push_sum(text: &mut Text, names: &Names, c: usize, d: usize, n: u64) -> Resul
 }
 
 fn push_channel(text: &mut Text, names: &Names, c: usize, sums: &[u64]) -> Result<(), OutOfMemory>
+    requires table { IsTable (length (naming_of names.now).channels) (length (naming_of names.now).colours) sums.now }
     requires channel { c < length (naming_of names.now).channels }
-    requires few { length (naming_of names.now).channels ≤ 8192 }
-    requires colours { length (naming_of names.now).colours ≤ 64 }
-    requires whole { length sums.now ≡ length (naming_of names.now).channels * length (naming_of names.now).colours }
     ensures { OnOk result (text.new.items ≡ text.old.items ++ channel_sums (naming_of names.now) (sum_at sums.now (length (naming_of names.now).colours)) c (length (naming_of names.now).colours)) }
 {
     let colours = names.colours.len();
@@ -110,9 +117,7 @@ fn push_channel(text: &mut Text, names: &Names, c: usize, sums: &[u64]) -> Resul
 
 /// A line for each colour on each channel that it moved on.
 fn push_sums(text: &mut Text, names: &Names, sums: &[u64]) -> Result<(), OutOfMemory>
-    requires few { length (naming_of names.now).channels ≤ 8192 }
-    requires colours { length (naming_of names.now).colours ≤ 64 }
-    requires whole { length sums.now ≡ length (naming_of names.now).channels * length (naming_of names.now).colours }
+    requires { IsTable (length (naming_of names.now).channels) (length (naming_of names.now).colours) sums.now }
     ensures { OnOk result (text.new.items ≡ text.old.items ++ sum_lines (naming_of names.now) (sum_at sums.now (length (naming_of names.now).colours)) (length (naming_of names.now).channels)) }
 {
     for c in 0..names.channels.len() {
@@ -121,16 +126,24 @@ fn push_sums(text: &mut Text, names: &Names, sums: &[u64]) -> Result<(), OutOfMe
     Ok(())
 }
 
-fn push_end(text: &mut Text, cycles: u32) -> Result<(), OutOfMemory>
-    ensures { OnOk result (text.new.items ≡ text.old.items ++ end_line cycles) }
+/// What follows the lines of all cycles: the sums, and the number of cycles.
+pub fn push_end(
+    text: &mut Text,
+    names: &Names,
+    sums: &[u64],
+    cycles: u32,
+) -> Result<(), OutOfMemory>
+    requires { IsTable (length (naming_of names.now).channels) (length (naming_of names.now).colours) sums.now }
+    ensures { OnOk result (text.new.items ≡ text.old.items ++ (sum_lines (naming_of names.now) (sum_at sums.now (length (naming_of names.now).colours)) (length (naming_of names.now).channels) ++ end_line cycles)) }
 {
+    push_sums(text, names, sums)?;
     text.push_bytes(b"end ")?;
     text.push_number(i128::from(cycles))?;
     text.push_bytes(b"\n")
 }
 
-/// The text of a run whose moves are those of the trace: for each cycle a line with its number and its
-/// moves, for each channel and colour with moves a line with their sum, and the number of cycles. The
+/// The text of a whole run whose moves are those of the trace: for each cycle a line with its number and
+/// its moves, for each channel and colour with moves a line with their sum, and the number of cycles. The
 /// names say how many channels and colours there are.
 pub fn trace_text(alloc: Global, names: &Names, trace: &Trace) -> Result<Text, OutOfMemory>
     requires channels { length (naming_of names.now).channels ≤ 8192 }
@@ -144,9 +157,9 @@ pub fn trace_text(alloc: Global, names: &Names, trace: &Trace) -> Result<Text, O
         names.colours.len(),
         trace.moves.as_slice(),
     )?;
+    let cycles = trace.cycles;
     let mut text = Text::new(alloc);
-    push_cycles(&mut text, names, trace)?;
-    push_sums(&mut text, names, sums.as_slice())?;
-    push_end(&mut text, trace.cycles)?;
+    push_round(&mut text, names, 0, trace)?;
+    push_end(&mut text, names, sums.as_slice(), cycles)?;
     Ok(text)
 }

@@ -1,17 +1,18 @@
 //! The moves of a run.
 
-ghost use Rattle.std.specs.Prelude.{◌≡◌, ◌+◌, ◌^◌, ◌<◌, ◌≤◌, ◌++◌, length, map, IfOk, OnOk, OnErr};
+ghost use Rattle.std.specs.Prelude.{◌≡◌, ◌+◌, ◌-◌, ◌*◌, ◌^◌, ◌<◌, ◌≤◌, ◌++◌, length, IfOk, OnOk, OnErr};
 ghost use Rattle.xm_model.specs.Lists.{signals_of};
-ghost use Rattle.xm_model.specs.Next.{move};
 ghost use Rattle.xm_model.specs.Signals.{only_if};
-ghost use Rattle.xm_order.specs.Dependence.{IsOrder};
+ghost use Rattle.xm_step.specs.Roomy.{IsRoomy};
+ghost use Rattle.xm_tape.specs.Taped.{cycles_of};
 ghost use Rattle.xm_trace.specs.Moves.{cycle_moves, moved_on};
-ghost use Rattle.xm_trace.specs.Runs.{AreMovesOfRun};
+ghost use Rattle.xm_trace.specs.Runs.{AreCellsAt, AreMovesFrom, AreMovesOfRun};
 
 use std::alloc::Global;
-use xm_model::{Choice, List, Net, OutOfMemory, Wire};
-use xm_order::Signal;
-use xm_step::{blank, oracle_numbers, reset, step};
+use xm_design::Design;
+use xm_model::{List, OutOfMemory, State, Wire};
+use xm_step::{blank, reset, step};
+use xm_tape::Tape;
 
 /// A colour moved on a channel in a cycle.
 #[derive(Clone, Copy, PartialEq, Eq, Debug)]
@@ -21,70 +22,88 @@ pub struct Move {
     pub colour: u8,
 }
 
-/// What moved in a run of so many cycles, by cycle and then channel.
+/// What moved in so many cycles, by cycle and then channel.
 #[derive(Drop)]
 pub struct Trace {
     pub cycles: u32,
     pub moves: List<Move>,
 }
 
-/// Notes the move on channel `c` in cycle `t`, if there is one.
-fn note_move(moves: &mut List<Move>, t: u32, c: u32, wire: Wire) -> Result<(), OutOfMemory>
-    ensures { OnOk result (moves.new.items ≡ moves.old.items ++ moved_on t c (only_if wire.ready wire.offer)) }
+/// Notes the move on channel `c` in cycle `t`, if there is one. There is room for it.
+fn note_move(moves: &mut List<Move>, t: u32, c: u32, wire: Wire)
+    requires { length moves.old.items < moves.old.room }
+    ensures items { moves.new.items ≡ moves.old.items ++ moved_on t c (only_if wire.ready wire.offer) }
+    ensures few { length moves.new.items ≤ length moves.old.items + 1 }
+    ensures room { moves.new.room ≡ moves.old.room }
 {
-    match wire.offer {
-        Some(colour) if wire.ready => moves.push(Move {
+    if let Some(colour) = wire.offer
+        && wire.ready
+    {
+        let _ = moves.push(Move {
             cycle: t,
             channel: c,
             colour,
-        }),
-        _ => Ok(()),
+        });
     }
 }
 
-/// Notes the moves of cycle `t`, by channel.
-fn note_moves(moves: &mut List<Move>, t: u32, wires: &[Wire]) -> Result<(), OutOfMemory>
-    requires { length wires.now ≤ 8192 }
-    ensures { OnOk result (moves.new.items ≡ moves.old.items ++ cycle_moves (signals_of wires.now) t (length wires.now)) }
+/// Notes the moves of cycle `t`, by channel. There is room for one on each.
+fn note_moves(moves: &mut List<Move>, t: u32, wires: &[Wire])
+    requires channels { length wires.now ≤ 8192 }
+    requires room { length moves.old.items + length wires.now ≤ moves.old.room }
+    ensures items { moves.new.items ≡ moves.old.items ++ cycle_moves (signals_of wires.now) t (length wires.now) }
+    ensures few { length moves.new.items ≤ length moves.old.items + length wires.now }
+    ensures room { moves.new.room ≡ moves.old.room }
 {
     for c in 0..wires.len() {
-        note_move(moves, t, c as u32, wires[c])?;
+        note_move(moves, t, c as u32, wires[c]);
     }
-    Ok(())
 }
 
-/// The moves of the tape's run, by cycle and then channel. A row lists the choices of its cycle for the
-/// sources and sinks alone, in primitive order.
-pub fn run_all(
+/// The moves of the cycles from `from` to before `to`, and the state past them. A cycle takes time that is
+/// linear in the primitives and channels, and no memory: room for one move on each channel in each cycle,
+/// 12 bytes for one, and for one frame is taken first, so a refusal leaves the state.
+pub fn run_round(
     alloc: Global,
-    net: &Net,
-    order: &[Signal],
-    rows: &[List<Choice>],
+    design: &Design,
+    tape: &Tape,
+    s: &mut State,
+    from: u32,
+    to: u32,
 ) -> Result<Trace, OutOfMemory>
-    requires order { IsOrder net.now order.now }
-    requires few { length rows.now < 2 ^ 32 }
-    ensures cycles { IfOk result (λ trace. trace.cycles ≡ length rows.now) }
-    ensures moves { IfOk result (λ trace. AreMovesOfRun net.now (map (λ row. row.items) rows.now) trace.moves.items) }
+    requires roomy { IsRoomy design.now.net.prims s.old.cells.items }
+    requires cells { AreCellsAt design.now.net tape.now from s.old.cells.items }
+    requires order { from ≤ to }
+    requires within { to ≤ cycles_of tape.now }
+    requires room { (to - from) * design.now.net.channels < 2 ^ 32 }
+    ensures cycles { IfOk result (λ trace. trace.cycles ≡ to - from) }
+    ensures moves { IfOk result (λ trace. AreMovesFrom design.now.net tape.now from (to - from) trace.moves.items) }
+    ensures cells { OnOk result (AreCellsAt design.now.net tape.now to s.new.cells.items) }
+    ensures roomy { OnOk result (IsRoomy design.now.net.prims s.new.cells.items) }
+    ensures err { OnErr result (s.new ≡ s.old) }
 {
-    xm_order::one_run();
-    let _channels = net.channels();
-    let oracles = oracle_numbers(alloc, net)?;
-    let mut state = reset(alloc, net)?;
-    let mut frame = blank(alloc, net)?;
+    let channels = design.net().channels();
     let mut moves = List::new(alloc);
-    for t in 0..rows.len() {
-        step(
-            net,
-            order,
-            oracles.as_slice(),
-            &mut state,
-            rows[t].as_slice(),
-            &mut frame,
-        );
-        note_moves(&mut moves, t as u32, frame.wires.as_slice())?;
+    moves.reserve((to - from) * channels)?;
+    let mut frame = blank(alloc, design)?;
+    for t in from..to {
+        step(design, s, tape.at(t), &mut frame);
+        note_moves(&mut moves, t, frame.wires.as_slice());
     }
     Ok(Trace {
-        cycles: rows.len() as u32,
+        cycles: to - from,
         moves,
     })
+}
+
+/// The moves of the tape's run, by cycle and then channel, as one round.
+pub fn run_all(alloc: Global, design: &Design, tape: &Tape) -> Result<Trace, OutOfMemory>
+    requires { cycles_of tape.now * design.now.net.channels < 2 ^ 32 }
+    ensures cycles { IfOk result (λ trace. trace.cycles ≡ cycles_of tape.now) }
+    ensures moves { IfOk result (λ trace. AreMovesOfRun design.now.net tape.now trace.moves.items) }
+{
+    xm_order::one_run();
+    let _net = design.net();
+    let mut s = reset(alloc, design)?;
+    run_round(alloc, design, tape, &mut s, 0, tape.cycles())
 }

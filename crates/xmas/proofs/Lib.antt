@@ -1,2 +1,7 @@
-pub mod Plain
+mod Checked
+mod Fronts
+mod Ran
+mod Refusing
 pub mod Telling
+mod Whys
+mod Written

@@ -2,12 +2,13 @@
 //! output, and says why it refuses on standard error.
 #![tactic(auto)]
 
-mod order;
+mod answer;
+mod command;
+mod prepared;
 mod refusal;
-mod run;
-#[cfg(test)]
-mod tests;
+mod running;
 mod top;
+mod writing;
 
 ghost use Rattle.std.specs.Prelude.{◌≡◌, IfOk};
 
@@ -24,7 +25,7 @@ fn main(rt: HostRuntime) -> ExitCode {
     let mut err = StdSink::new(rt.stderr());
     let status = match words_of(&rt) {
         Ok(words) => top::plain(rt.alloc(), &words, &mut source, &mut out, &mut err),
-        Err(OutOfMemory) => refuse(&mut err, Refusal::Memory),
+        Err(OutOfMemory) => refuse(&mut err, &Refusal::Memory),
     };
     ExitCode::from(status)
 }

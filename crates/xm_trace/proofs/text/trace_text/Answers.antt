@@ -3,7 +3,7 @@ use Rattle.std.proofs.lemmas.List.{length-map}
 use Rattle.xm_model.specs.Listing.{Listing}
 use Rattle.xm_model.specs.Naming.{naming_of}
 use Rattle.xm_trace.specs.Sums.{sum_at, sum_in}
-use Rattle.xm_trace.specs.Text.{sum_lines}
+use Rattle.xm_trace.specs.Text.{end_line, sum_lines}
 use Rattle.xm_trace.specs.declared.trace.Move.{Move}
 use Rattle.xm_trace.proofs.Lines.{whole_text}
 use Rattle.xm_trace.proofs.text.trace_text.Goals as goal
@@ -19,6 +19,6 @@ returns c φ is =
     ap (λ (n : ℕ). sum_at sums n k d) colours
     ∙ c.in_ok-sums.ensures.same k d (subst (λ (n : ℕ). k < n) channels below) (subst (λ (n : ℕ). d < n) colours within)
     ∙ ap (λ (ms : List Move). sum_in ms k d) c.as_slice.ensures in
-    let summed = c.in_ok-push_sums.ensures ∙ ap (λ (xs : List ℕ). c.push_cycles.new.text.items ++ sum_lines names (sum_at xs (length names.colours)) (length names.channels)) c.as_slice-2.ensures in
-    whole_text names φ c.args.trace.now.cycles c.args.trace.now.moves.items sums c.new-text.result.items c.push_cycles.new.text.items c.push_sums.new.text.items c.push_end.new.text.items is same
-    c.new-text.ensures.items (c.in_ok-push_cycles.ensures φ is) summed c.in_ok-push_end.ensures
+    let ended = c.in_ok-push_end.ensures
+    ∙ ap (λ (xs : List ℕ). c.push_round.new.text.items ++ (sum_lines names (sum_at xs (length names.colours)) (length names.channels) ++ end_line c.args.trace.now.cycles)) c.as_slice-2.ensures in
+    whole_text names φ c.args.trace.now.cycles c.args.trace.now.moves.items sums c.new-text.result.items c.push_round.new.text.items c.push_end.new.text.items is same c.new-text.ensures.items (c.in_ok-push_round.ensures φ) ended

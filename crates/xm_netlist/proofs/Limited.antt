@@ -1,0 +1,276 @@
+-- A draft whose colours and sizes are right makes a net within its limits.
+use Rattle.std.proofs.Common.{◌≡◌, ℕ, zero, suc, ◌<◌, ◌≤◌, true, false, cond, List, [], ◌∷◌, ◌++◌, length, get_or, map, replicate, Ok, refl, ◌∙◌, inl, inr, arith}
+use Rattle.std.specs.Prelude.{◌||◌, ◌&&◌, nat_le, sum_by, slice_set, codes}
+use Rattle.std.specs.List.{All, flat_map}
+use Rattle.std.specs.Str.{bytes_eq}
+use Rattle.std.proofs.lemmas.Bool.{and_parts, leb-true, or_cases, or_left, or_right}
+use Rattle.std.proofs.lemmas.List.{length-append, length-map, length-replicate}
+use Rattle.std.proofs.lemmas.List.Elements.{All-append, All-cons, All-head, All-map, All-nil, All-set, All-tail, All-weaker}
+use Rattle.std.proofs.lemmas.List.Folds.{list_any-append}
+use Rattle.std.proofs.lemmas.List.Sums.{sum_by-cons}
+use Rattle.std.proofs.lemmas.Slice.Eq.{bytes_eq-Decides}
+use Rattle.std.proofs.Math.ListN.{length-set}
+use Rattle.xm_model.specs.Net.{FitsComponent, IsColourMap, IsWithinLimits, capacity_of, inputs, outputs}
+use Rattle.xm_netlist.specs.Draft.{Draft, Form, Part, Table, channel_names, channels_of, fork, function, join, merge, queue, sink, source, switch}
+use Rattle.xm_netlist.specs.Fault.{member_of, place_of}
+use Rattle.xm_netlist.specs.Names.{Name, first_uses, is_among, number_in}
+use Rattle.xm_netlist.specs.Numbered.{component_in, images_of, marks_of, net_of, numbers_below, part_numbered, set_each}
+use Rattle.xm_netlist.specs.Shape.{net}
+use Rattle.xm_netlist.specs.Steps.{each_holds}
+use Rattle.xm_netlist.specs.Tests.{all_known, capacity_in, capacity_sized, coloured, entry_coloured, form_capacity, form_coloured, initial_sized, known, limited, offered, offers_sized, packets_sized, part_coloured, room_sized, sized, source_sized, table_known}
+use Rattle.xm_netlist.specs.Valid.{channel_uses}
+use Rattle.xm_netlist.specs.declared.fault.Which.{Which}
+use Rattle.xm_netlist.specs.declared.fault.Which.TheVariants as which
+use Rattle.xm_netlist.proofs.Passing.{All-back, All-front, both, checked, held}
+
+-- ---- names that are among others
+
+pub number_below : (names : List Name) (n : Name) → is_among names n ≡ true → number_in names n < length names
+number_below [] n e = absurd cc
+number_below (m ∷ ms) n e =
+    elim (bytes_eq n m) as (λ b. (b || is_among ms n) ≡ true → cond b 0 (suc (number_in ms n)) < length (m ∷ ms)) [
+      | true ↦ λ first. omega arith
+      | false ↦ λ later. (let lt = number_below ms n later in omega arith)
+    ] e
+
+same_bytes : (n : Name) → bytes_eq n n ≡ true
+same_bytes n = (bytes_eq-Decides n n).1 refl
+
+among_append : (xs ys : List Name) (n : Name) → (is_among xs n || is_among ys n) ≡ true → is_among (xs ++ ys) n ≡ true
+among_append xs ys n e = list_any-append (bytes_eq n) xs ys ∙ e
+
+among_more : (seen : List Name) (x n : Name) → is_among seen n ≡ true → is_among (cond (is_among seen x) seen (seen ++ x ∷ [])) n ≡ true
+among_more seen x n e =
+    elim (is_among seen x) as (λ b. is_among (cond b seen (seen ++ x ∷ [])) n ≡ true) [
+      | true ↦ e
+      | false ↦ among_append seen (x ∷ []) n (or_left (is_among seen n) (is_among (x ∷ []) n) e)
+    ]
+
+among_itself : (seen : List Name) (x : Name) → is_among (cond (is_among seen x) seen (seen ++ x ∷ [])) x ≡ true
+among_itself seen x =
+    elim (is_among seen x) as (λ b. is_among seen x ≡ b → is_among (cond b seen (seen ++ x ∷ [])) x ≡ true) [
+      | true ↦ λ e. e
+      | false ↦ λ e. among_append seen (x ∷ []) x (rw (e, same_bytes x) refl)
+    ] refl
+
+seen_before : (seen xs : List Name) (n : Name) → is_among seen n ≡ true → is_among (first_uses seen xs) n ≡ true
+seen_before seen [] n e = e
+seen_before seen (x ∷ xs) n e = seen_before (cond (is_among seen x) seen (seen ++ x ∷ [])) xs n (among_more seen x n e)
+
+-- each use has its place among the first uses
+pub used : (seen xs : List Name) (n : Name) → is_among xs n ≡ true → is_among (first_uses seen xs) n ≡ true
+used seen [] n e = absurd cc
+used seen (x ∷ xs) n e =
+    elim (or_cases (bytes_eq n x) (is_among xs n) e) [
+      | inl here ↦ (let is : n ≡ x = (bytes_eq-Decides n x).0 here in rw is (seen_before (cond (is_among seen x) seen (seen ++ x ∷ [])) xs x (among_itself seen x)))
+      | inr later ↦ used (cond (is_among seen x) seen (seen ++ x ∷ [])) xs n later
+    ]
+
+among_each : (names sub : List Name) → ((n : Name) → is_among sub n ≡ true → is_among names n ≡ true) → All (λ n. is_among names n ≡ true) sub
+among_each names [] into = All-nil (λ n. is_among names n ≡ true)
+among_each names (n ∷ ns) into =
+    All-cons (λ n. is_among names n ≡ true) n ns (into n (or_left (bytes_eq n n) (is_among ns n) (same_bytes n)))
+    (among_each names ns (λ m e. into m (or_right (bytes_eq m n) (is_among ns m) e)))
+
+among_all : {A : Type 0} (f : A → List Name) (names : List Name) (xs : List A) → ((n : Name) → is_among (flat_map f xs) n ≡ true → is_among names n ≡ true)
+    → All (λ x. All (λ n. is_among names n ≡ true) (f x)) xs
+among_all f names [] into = All-nil (λ x. All (λ n. is_among names n ≡ true) (f x))
+among_all f names (x ∷ xs) into =
+    All-cons (λ x. All (λ n. is_among names n ≡ true) (f x)) x xs (among_each names (f x) (λ n e. into n (among_append (f x) (flat_map f xs) n (or_left (is_among (f x) n) (is_among (flat_map f xs) n) e))))
+    (among_all f names xs (λ n e. into n (among_append (f x) (flat_map f xs) n (or_right (is_among (f x) n) (is_among (flat_map f xs) n) e))))
+
+-- the channels of each primitive are among those of the draft
+pub all_used : (parts : List Part) → All (λ part. All (λ n. is_among (channel_names parts) n ≡ true) (channels_of part)) parts
+all_used parts = among_all channels_of (channel_names parts) parts (λ n e. used [] (flat_map channels_of parts) n e)
+
+-- ---- ports
+
+pub ports_numbered : (channels colours : List Name) (name : Name) (form : Form)
+    → channel_uses (component_in channels colours form) ≡ map (number_in channels) (channels_of (record { name = name; form = form }))
+ports_numbered channels colours name (source out ds mode) = refl
+ports_numbered channels colours name (sink input mode) = refl
+ports_numbered channels colours name (queue input out capacity initial) = refl
+ports_numbered channels colours name (function input out table) = refl
+ports_numbered channels colours name (fork input a b table_a table_b) = refl
+ports_numbered channels colours name (join a b out pass) = refl
+ports_numbered channels colours name (switch input a b to_a) = refl
+ports_numbered channels colours name (merge a b out) = refl
+
+ports_within : (channels colours : List Name) (part : Part) → All (λ n. is_among channels n ≡ true) (channels_of part)
+    → All (λ c. c < length channels) (inputs (part_numbered channels colours part) ++ outputs (part_numbered channels colours part))
+ports_within channels colours part among =
+    rw (ports_numbered channels colours part.name part.form)
+    (All-map (λ c. c < length channels) (number_in channels) (channels_of part) (All-weaker (λ n. is_among channels n ≡ true) (λ n. number_in channels n < length channels) (λ n e. number_below channels n e) (channels_of part) among))
+
+-- ---- colours
+
+pub all_below : (colours names : List Name) → All (λ n. is_among colours n ≡ true) names → All (λ d. d < length colours) (map (number_in colours) names)
+all_below colours names among =
+    All-map (λ d. d < length colours) (number_in colours) names (All-weaker (λ n. is_among colours n ≡ true) (λ n. number_in colours n < length colours) (λ n e. number_below colours n e) names among)
+
+pub are_known : (colours : List Name) (path : List ℕ) (names : List Name) → all_known colours path names ≡ Ok tt → All (λ n. is_among colours n ≡ true) names
+are_known colours path names e = held _ (λ n. is_among colours n ≡ true) (λ i n k. checked (is_among colours n) _ k) 0 names e
+
+pub are_offered : (colours : List Name) (path : List ℕ) (ds names : List Name) → each_holds (offered colours path ds) names ≡ Ok tt → All (λ n. is_among colours n ≡ true) names
+are_offered colours path ds names e = held _ (λ n. is_among colours n ≡ true) (λ i n k. checked (is_among colours n) _ (both (known colours _ n) _ k).0) 0 names e
+
+-- both colours of a member of a map are known
+abbrev pub IsKnown : List Name → Name × Name → Type 0
+IsKnown colours image = (is_among colours image.0 ≡ true) × (is_among colours image.1 ≡ true)
+
+pub are_mapped : (colours : List Name) (path : List ℕ) (table : Table) → table_known colours path table ≡ Ok tt → All (IsKnown colours) table
+are_mapped colours path [] e = All-nil (IsKnown colours)
+are_mapped colours path (image ∷ images) e =
+    let first = both (known colours path image.0) _ e in
+    let second = both (known colours (member_of path image.0) image.1) _ first.1 in
+    All-cons (IsKnown colours) image images (checked (is_among colours image.0) _ first.0, checked (is_among colours image.1) _ second.0) (are_mapped colours path images second.1)
+
+module _ {A X : Type 0} (place : A → ℕ) (value : A → X) where
+  pub length-set_each : (as' : List A) (xs : List X) → length (set_each place value as' xs) ≡ length xs
+  length-set_each [] xs = refl
+  length-set_each (a ∷ rest) xs = length-set_each rest (slice_set xs (place a) (value a)) ∙ length-set xs (place a) (value a)
+
+  pub All-set_each : (P : X → Type 0) (as' : List A) (xs : List X) → All (λ a. P (value a)) as' → All P xs → All P (set_each place value as' xs)
+  All-set_each P [] xs new old = old
+  All-set_each P (a ∷ rest) xs new old =
+      All-set_each P rest (slice_set xs (place a) (value a)) (All-tail (λ a. P (value a)) a rest new)
+      (All-set P xs (place a) (value a) (All-head (λ a. P (value a)) a rest new) old)
+
+pub length-numbers_below : (n : ℕ) → length (numbers_below n) ≡ n
+length-numbers_below zero = refl
+length-numbers_below (suc n) = omega (arith, length-append (numbers_below n) (n ∷ []), length-numbers_below n)
+
+pub all_numbers_below : (n : ℕ) → All (λ d. d < n) (numbers_below n)
+all_numbers_below zero = All-nil (λ d. d < 0)
+all_numbers_below (suc n) =
+    All-append (λ d. d < suc n) (numbers_below n) (n ∷ []) (All-weaker (λ d. d < n) (λ d. d < suc n) (λ d lt. omega arith) (numbers_below n) (all_numbers_below n))
+    (All-cons (λ d. d < suc n) n [] (omega arith) (All-nil (λ d. d < suc n)))
+
+pub is_colour_map : (colours : List Name) (table : Table) → All (IsKnown colours) table → IsColourMap (length colours) (images_of colours table)
+is_colour_map colours table known_all = (
+  length-set_each (λ (image : Name × Name). number_in colours image.0) (λ (image : Name × Name). number_in colours image.1) table (numbers_below (length colours)) ∙ length-numbers_below (length colours),
+  All-set_each (λ (image : Name × Name). number_in colours image.0) (λ (image : Name × Name). number_in colours image.1) (λ d. d < length colours) table (numbers_below (length colours))
+      (All-weaker (IsKnown colours) (λ image. number_in colours image.1 < length colours) (λ image e. number_below colours image.1 e.1) table known_all) (all_numbers_below (length colours)),
+)
+
+pub length-marks_of : (colours names : List Name) → length (marks_of colours names) ≡ length colours
+length-marks_of colours names = length-set_each (number_in colours) (λ (name : Name). true) names (replicate (length colours) false) ∙ length-replicate (length colours) false
+
+-- ---- sizes
+
+pub within : (it : Which) (low high count : ℕ) → sized it low high count ≡ Ok tt → (low ≤ count) × (count ≤ high)
+within it low high count e =
+    let parts = and_parts (nat_le low count) (nat_le count high) (checked (nat_le low count && nat_le count high) _ e) in
+    (leb-true low count parts.0, leb-true count high parts.1)
+
+pub small_room : (form : Form) → room_sized form ≡ Ok tt → form_capacity form ≤ 4096
+small_room (source out ds mode) e = omega arith
+small_room (sink input mode) e = omega arith
+small_room (queue input out capacity initial) e = (within which.Capacity 1 4096 capacity e).1
+small_room (function input out table) e = omega arith
+small_room (fork input a b table_a table_b) e = omega arith
+small_room (join a b out pass) e = omega arith
+small_room (switch input a b to_a) e = omega arith
+small_room (merge a b out) e = omega arith
+
+pub all_small : (parts : List Part) → each_holds capacity_sized parts ≡ Ok tt → All (λ part. capacity_in part ≤ 4096) parts
+all_small parts e = held capacity_sized (λ (part : Part). capacity_in part ≤ 4096) (λ i part room. small_room part.form room) 0 parts e
+
+pub fits : (channels colours : List Name) (path : List ℕ) (form : Form) → form_coloured colours path form ≡ Ok tt → offers_sized form ≡ Ok tt → room_sized form ≡ Ok tt → packets_sized form ≡ Ok tt
+    → FitsComponent (length colours) (component_in channels colours form)
+fits channels colours path (source out ds mode) known_all offers room packets =
+    let few = within which.SourceColours 1 36 (length ds) offers in
+    (omega (arith, few.0, length-map ds (number_in colours)), omega (arith, few.1, length-map ds (number_in colours)), all_below colours ds (are_offered colours _ ds ds known_all))
+fits channels colours path (sink input mode) known_all offers room packets = tt
+fits channels colours path (queue input out capacity initial) known_all offers room packets =
+    let few = within which.Capacity 1 4096 capacity room in
+    let first = within which.Initial 0 capacity (length initial) packets in
+    (few.0, few.1, omega (arith, first.1, length-map initial (number_in colours)), all_below colours initial (are_known colours _ initial known_all))
+fits channels colours path (function input out table) known_all offers room packets = is_colour_map colours table (are_mapped colours _ table known_all)
+fits channels colours path (fork input a b table_a table_b) known_all offers room packets =
+    let two = both (table_known colours (member_of path (codes "map_a")) table_a) (table_known colours (member_of path (codes "map_b")) table_b) known_all in
+    (is_colour_map colours table_a (are_mapped colours _ table_a two.0), is_colour_map colours table_b (are_mapped colours _ table_b two.1))
+fits channels colours path (join a b out pass) known_all offers room packets = tt
+fits channels colours path (switch input a b to_a) known_all offers room packets = length-marks_of colours to_a
+fits channels colours path (merge a b out) known_all offers room packets = tt
+
+same_capacity : (channels colours : List Name) (form : Form) → capacity_of (component_in channels colours form) ≡ form_capacity form
+same_capacity channels colours (source out ds mode) = refl
+same_capacity channels colours (sink input mode) = refl
+same_capacity channels colours (queue input out capacity initial) = refl
+same_capacity channels colours (function input out table) = refl
+same_capacity channels colours (fork input a b table_a table_b) = refl
+same_capacity channels colours (join a b out pass) = refl
+same_capacity channels colours (switch input a b to_a) = refl
+same_capacity channels colours (merge a b out) = refl
+
+same_capacities : (channels colours : List Name) (parts : List Part) → sum_by capacity_of (map (part_numbered channels colours) parts) ≡ sum_by capacity_in parts
+same_capacities channels colours [] = refl
+same_capacities channels colours (part ∷ parts) =
+    rw (sum_by-cons capacity_of (part_numbered channels colours part) (map (part_numbered channels colours) parts), sum_by-cons capacity_in part parts, same_capacity channels colours part.form, same_capacities channels colours parts) refl
+
+-- ---- a draft
+
+-- what the tests of colours and of sizes say, one by one
+pub record Limits (draft : Draft) : Type 0 where
+  pub colours : (1 ≤ length draft.colours) × (length draft.colours ≤ 64)
+  pub parts : (1 ≤ length draft.parts) × (length draft.parts ≤ 4096)
+  pub channels : (1 ≤ length (channel_names draft.parts)) × (length (channel_names draft.parts) ≤ 8192)
+  pub sources : All (λ part. offers_sized part.form ≡ Ok tt) draft.parts
+  pub capacities : All (λ part. room_sized part.form ≡ Ok tt) draft.parts
+  pub small : All (λ part. capacity_in part ≤ 4096) draft.parts
+  pub sum : sum_by capacity_in draft.parts ≤ 1000000
+  pub initial : All (λ part. packets_sized part.form ≡ Ok tt) draft.parts
+
+pub limits : (draft : Draft) → limited draft ≡ Ok tt → Limits draft
+unfolding limited
+limits draft e =
+    let colours = both (sized which.Colours 1 64 (length draft.colours)) _ e in
+    let parts = both (sized which.Primitives 1 4096 (length draft.parts)) _ colours.1 in
+    let channels = both (sized which.Channels 1 8192 (length (channel_names draft.parts))) _ parts.1 in
+    let sources = both (each_holds source_sized draft.parts) _ channels.1 in
+    let capacities = both (each_holds capacity_sized draft.parts) _ sources.1 in
+    let total = both (sized which.CapacitySum 0 1000000 (sum_by capacity_in draft.parts)) _ capacities.1 in
+    record {
+      colours = within which.Colours 1 64 (length draft.colours) colours.0;
+      parts = within which.Primitives 1 4096 (length draft.parts) parts.0;
+      channels = within which.Channels 1 8192 (length (channel_names draft.parts)) channels.0;
+      sources = held source_sized (λ (part : Part). offers_sized part.form ≡ Ok tt) (λ i part h. h) 0 draft.parts sources.0;
+      capacities = held capacity_sized (λ (part : Part). room_sized part.form ≡ Ok tt) (λ i part h. h) 0 draft.parts capacities.0;
+      small = all_small draft.parts capacities.0;
+      sum = (within which.CapacitySum 0 1000000 (sum_by capacity_in draft.parts) total.0).1;
+      initial = held initial_sized (λ (part : Part). packets_sized part.form ≡ Ok tt) (λ i part h. h) 0 draft.parts total.1;
+    }
+
+-- each primitive's lists and maps have known colours, wherever they stand
+abbrev pub IsColoured : List Name → Part → Type 0
+IsColoured colours part = (path : List ℕ) × (form_coloured colours path part.form ≡ Ok tt)
+
+pub parts_coloured : (draft : Draft) → coloured draft ≡ Ok tt → All (IsColoured draft.colours) draft.parts
+unfolding coloured
+parts_coloured draft e =
+    held (part_coloured draft.colours) (IsColoured draft.colours) (λ i part h. (place_of net i, h)) 0 draft.parts (both (each_holds (part_coloured draft.colours) draft.parts) (each_holds (entry_coloured draft.colours) draft.allow) e).0
+
+pub within_limits : (draft : Draft) → limited draft ≡ Ok tt → coloured draft ≡ Ok tt → IsWithinLimits (net_of draft)
+unfolding net_of
+within_limits draft small known_all =
+    let it = limits draft small in
+    let names = channel_names draft.parts in
+    let long = length-map draft.parts (part_numbered names draft.colours) in
+    let among = all_used draft.parts in
+    let coloured_all = parts_coloured draft known_all in
+    record {
+      some_prims = omega (arith, long, it.parts.0);
+      prims = omega (arith, long, it.parts.1);
+      some_channels = it.channels.0;
+      channels = it.channels.1;
+      some_colours = it.colours.0;
+      colours = it.colours.1;
+      outputs = All-map (λ m. All (λ c. c < length names) (outputs m)) (part_numbered names draft.colours) draft.parts
+          (λ k d lt. All-back (λ c. c < length names) (inputs (part_numbered names draft.colours (get_or draft.parts k d))) _ (ports_within names draft.colours (get_or draft.parts k d) (among k d lt)));
+      inputs = All-map (λ m. All (λ c. c < length names) (inputs m)) (part_numbered names draft.colours) draft.parts
+          (λ k d lt. All-front (λ c. c < length names) _ (outputs (part_numbered names draft.colours (get_or draft.parts k d))) (ports_within names draft.colours (get_or draft.parts k d) (among k d lt)));
+      primitives = All-map (FitsComponent (length draft.colours)) (part_numbered names draft.colours) draft.parts
+          (λ k d lt. fits names draft.colours (coloured_all k d lt).0 (get_or draft.parts k d).form (coloured_all k d lt).1 (it.sources k d lt) (it.capacities k d lt) (it.initial k d lt));
+      capacities = omega (arith, same_capacities names draft.colours draft.parts, it.sum);
+    }

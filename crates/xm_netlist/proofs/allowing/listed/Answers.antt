@@ -1,0 +1,10 @@
+use Rattle.std.proofs.Common.{◌∙◌, length, string_bytes, arith, ap}
+use Rattle.std.proofs.lemmas.List.{length-map}
+use Rattle.xm_netlist.specs.Drafted.{names_seen}
+use Rattle.xm_netlist.proofs.Limited.{length-marks_of}
+use Rattle.xm_netlist.proofs.allowing.listed.Goals as goal
+
+pub marked-requires : goal.marked-requires
+marked-requires c =
+    let marks = ap length c.as_slice.ensures ∙ ap length c.in_ok-marks.ensures ∙ length-marks_of (names_seen c.args.known.now.keys) (names_seen c.args.names.now) in
+    omega (arith, marks, length-map c.args.known.now.keys string_bytes)

@@ -1,0 +1,12 @@
+pub mod Answer
+pub mod Building
+pub mod Given
+pub mod Law
+pub mod Numbers
+pub mod Plain
+pub mod Rules
+pub mod Taken
+pub mod Turns
+pub mod Uses
+pub mod Values
+pub mod Words

@@ -1,7 +1,0 @@
-use Rattle.std.proofs.Common.{◌≡◌, take}
-use Rattle.xm_model.specs.Naming.{texts_of}
-use Rattle.xm_small.specs.Draft.{names_seen}
-use Rattle.xm_small.proofs.naming.texts_of_names.Given as goal
-
-abbrev pub invariant-loop-name : goal.invariant-loop-name
-invariant-loop-name l = texts_of l.texts.items ≡ names_seen (take l.name-index l.names.keys)

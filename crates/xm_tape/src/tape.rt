@@ -1,0 +1,147 @@
+//! The choices of a run, cycle by cycle.
+
+ghost use Rattle.std.specs.Prelude.{◌≡◌, [], ◌*◌, ◌+◌, ◌<◌, ◌≤◌, ◌^◌, IfOk, length, slice_index_or};
+ghost use Rattle.xm_tape.specs.Drafted.{texts_seen};
+ghost use Rattle.xm_tape.specs.Draws.{seeded_rows};
+ghost use Rattle.xm_tape.specs.Fault.{Gives};
+ghost use Rattle.xm_tape.specs.Reading.{repeating, taped_in};
+
+use crate::fault::TapeFault;
+use crate::oracles::oracles_of;
+use crate::{draws, marks};
+use std::alloc::Global;
+use std::marker::Model;
+use xm_design::Design;
+use xm_model::{Choice, List, OutOfMemory};
+
+/// The choices of a run. A row has one choice for each source and sink; it is kept once, however often it
+/// is repeated, and takes at most 4 bytes a choice.
+#[derive(Drop)]
+pub struct Tape {
+    choices: List<Choice>,
+    width: u32,
+    stem: u32,
+    cycle: u32,
+    times: u32,
+}
+
+impl Model for Tape {
+    ghost use Rattle.xm_tape.specs.Taped.{Taped};
+
+    ghost Value = { Taped };
+
+    ghost use Rattle.xm_tape.specs.Flat.{IsKept, taped};
+
+    ghost view = { λ t. taped t.choices.items t.width t.stem t.cycle t.times };
+
+    ghost invariant = { λ t. IsKept t.choices.items t.width t.stem t.cycle t.times };
+}
+
+impl Tape {
+    ghost use Rattle.xm_tape.specs.Flat.{row_kept};
+    ghost use Rattle.xm_tape.specs.Taped.{Fits, cycles_of, rows_of};
+
+    /// The tape that draws its choices from a seed. All its rows are kept.
+    pub fn seeded(
+        alloc: Global,
+        design: &Design,
+        cycles: u32,
+        seed: u64,
+    ) -> Result<Tape, OutOfMemory>
+        requires few { cycles ≤ 10000000 }
+        requires small { cycles * design.now.net.channels ≤ 64000000 }
+        ensures tape { IfOk result (λ tape. tape ≡ record { stem = seeded_rows design.now.net.prims cycles seed; cycle = []; times = 0 }) }
+        ensures fits { IfOk result (Fits design.now.net) }
+    {
+        let oracles = oracles_of(alloc, design)?;
+        let mut choices = List::new(alloc);
+        draws::push_rows(&mut choices, &oracles, cycles, seed)?;
+        Ok(Tape {
+            choices,
+            width: oracles.len() as u32,
+            stem: cycles,
+            cycle: 0,
+            times: 0,
+        })
+    }
+
+    /// The tape of these rows of marks: those of the stem once, and those of the cycle so many times.
+    #[tactic(auto, unfolding(crate::specs::Reading::taped_in))]
+    pub(crate) fn written(
+        alloc: Global,
+        design: &Design,
+        stem: &[&str],
+        cycle: &[&str],
+        times: u32,
+    ) -> Result<Tape, TapeFault>
+        requires few { length stem.now + times * length cycle.now ≤ 10000000 }
+        requires counted { length stem.now + length cycle.now < 2 ^ 32 }
+        ensures { Gives (λ tape. tape) result (taped_in design.now.net (repeating (texts_seen stem.now) (texts_seen cycle.now) times)) }
+    {
+        let oracles = oracles_of(alloc, design)?;
+        let mut choices = List::new(alloc);
+        marks::push_rows(&mut choices, &oracles, 0, stem)?;
+        marks::push_rows(&mut choices, &oracles, stem.len() as u32, cycle)?;
+        Ok(Tape {
+            choices,
+            width: oracles.len() as u32,
+            stem: stem.len() as u32,
+            cycle: cycle.len() as u32,
+            times,
+        })
+    }
+
+    /// How many cycles the run has.
+    #[tactic(auto, using(crate::proofs::Repeating::counts))]
+    pub fn cycles(&self) -> u32
+        ensures number { result ≡ cycles_of self.now }
+        ensures rows { result ≡ length (rows_of self.now) }
+    {
+        self.stem + self.times * self.cycle
+    }
+
+    /// Where the row of cycle `t` stands among the rows that are kept.
+    #[tactic(auto, using(crate::proofs::Repeating::counts))]
+    fn row(&self, t: u32) -> u32
+        requires { t < cycles_of self.now }
+        ensures { result ≡ row_kept (length self.now.stem) (length self.now.cycle) t }
+    {
+        if t < self.stem {
+            t
+        } else {
+            self.stem + (t - self.stem) % self.cycle
+        }
+    }
+
+    /// The choices of cycle `t`, one for each source and sink in primitive order, in constant time.
+    pub fn at(&self, t: u32) -> &[Choice]
+        requires { t < cycles_of self.now }
+        ensures { result.now ≡ slice_index_or (rows_of self.now) t [] }
+    {
+        let start = self.row(t) as usize * self.width as usize;
+        &self.choices.as_slice()[start..start + self.width as usize]
+    }
+
+    /// How many rows come once, before those that are repeated.
+    #[tactic(auto, using(crate::proofs::Repeating::counts))]
+    pub fn stem_len(&self) -> u32
+        ensures { result ≡ length self.now.stem }
+    {
+        self.stem
+    }
+
+    /// How many rows are repeated.
+    #[tactic(auto, using(crate::proofs::Repeating::counts))]
+    pub fn cycle_len(&self) -> u32
+        ensures { result ≡ length self.now.cycle }
+    {
+        self.cycle
+    }
+
+    /// How many times they come.
+    pub fn times(&self) -> u32
+        ensures { result ≡ self.now.times }
+    {
+        self.times
+    }
+}
