@@ -67,7 +67,7 @@ impl Tape {
 
     /// The tape of these rows of marks: those of the stem once, and those of the cycle so many times.
     #[tactic(auto, unfolding(crate::specs::Reading::taped_in))]
-    pub(crate) fn written(
+    pub fn written(
         alloc: Global,
         design: &Design,
         stem: &[&str],

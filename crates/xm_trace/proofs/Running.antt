@@ -1,5 +1,5 @@
 -- One more cycle of a run.
-use Rattle.std.proofs.Common.{◌≡◌, ℕ, zero, suc, ◌<◌, ◌≤◌, ◌+◌, ◌-◌, ◌*◌, List, ◌++◌, length, get_or, sym, ap, ap₂, subst, ◌∙◌, add-one, append_assoc, arith, refl}
+use Rattle.std.proofs.Common.{◌≡◌, ℕ, zero, suc, ◌<◌, ◌≤◌, ◌+◌, ◌-◌, List, ◌++◌, length, get_or, sym, ap, ap₂, subst, ◌∙◌, add-one, append_assoc, arith, refl}
 use Rattle.std.proofs.lemmas.Option.{slice_get-get_or}
 use Rattle.std.specs.Prelude.{[], slice_index_or}
 use Rattle.xm_model.specs.Component.{Content}

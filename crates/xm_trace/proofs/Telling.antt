@@ -1,5 +1,5 @@
 -- What a text that is made round by round has had, after one more round.
-use Rattle.std.proofs.Common.{◌≡◌, ℕ, zero, suc, ◌<◌, ◌≤◌, ◌+◌, ◌^◌, List, [], ◌++◌, length, ap, ap₂, refl, subst, sym, ◌∙◌, arith}
+use Rattle.std.proofs.Common.{◌≡◌, ℕ, zero, suc, ◌<◌, ◌+◌, ◌^◌, List, [], ◌++◌, length, ap, ap₂, refl, subst, sym, ◌∙◌, arith}
 use Rattle.std.specs.List.{refill}
 use Rattle.xm_model.specs.Lending.{refill-full}
 use Rattle.xm_model.specs.Naming.{Naming}

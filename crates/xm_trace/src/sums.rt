@@ -1,6 +1,6 @@
 //! How often each colour moves on each channel.
 
-ghost use Rattle.std.specs.Prelude.{◌≡◌, ℕ, ◌+◌, ◌-◌, ◌*◌, ◌^◌, ◌<◌, ◌≤◌, ◌&&◌, cond, length, nat_eq, slice_index, slice_index_or, IfOk};
+ghost use Rattle.std.specs.Prelude.{◌≡◌, ℕ, ◌+◌, ◌^◌, ◌<◌, ◌≤◌, ◌&&◌, cond, length, nat_eq, slice_index, IfOk};
 ghost use Rattle.xm_trace.specs.Sums.{AreSums, sum_at, sum_in};
 ghost use Rattle.xm_trace.specs.Table.{IsTable};
 

@@ -1,6 +1,6 @@
 //! The pairs of a channel and a colour that have moves, with their sums.
 
-ghost use Rattle.std.specs.Prelude.{◌≡◌, ◌+◌, ◌*◌, ◌<◌, ◌≤◌, ◌++◌, length, IfOk, OnOk};
+ghost use Rattle.std.specs.Prelude.{◌≡◌, ◌<◌, ◌++◌, IfOk, OnOk};
 ghost use Rattle.xm_trace.specs.Sums.{sum_at};
 ghost use Rattle.xm_trace.specs.Table.{IsTable};
 ghost use Rattle.xm_trace.specs.Told.{channel_totals, total_if};

@@ -1,6 +1,6 @@
 //! The top call.
 
-ghost use Rattle.std.specs.Prelude.{◌≡◌, ◌≢◌, ◌↔◌, ◌⊎◌, ◌≤◌, ℕ, List as Items, IfErr, None, OnOk, Some, false, length, true};
+ghost use Rattle.std.specs.Prelude.{◌≡◌, ◌≢◌, ◌⊎◌, ◌≤◌, ℕ, List as Items, IfErr, None, OnOk, Some, false, length, true};
 ghost use Rattle.xm_io.specs.Bytes.{TakesAtMost, TakesMoreThan};
 ghost use Rattle.xm_io.specs.Causes.{Rose};
 ghost use Rattle.xm_model.specs.Naming.{texts_of};
@@ -14,6 +14,7 @@ use crate::command::{Command, command_of};
 use crate::refusal::{Refusal, refuse};
 use std::alloc::Global;
 use xm_io::{ReadFault, Sink, Source, Words, read_all};
+use xm_model::OutOfMemory;
 use xm_order::no_loop;
 
 /// The most bytes that a document may have: 16 MiB.
@@ -50,7 +51,8 @@ pub fn plain<S: Source, K: Sink, E: Sink>(
     out: &mut K,
     err: &mut E,
 ) -> u8
-    ensures words { (result ≡ 2) ↔ (command_in (texts_of words.now.words.items) ≡ None) }
+    ensures words { result ≡ 2 → command_in (texts_of words.now.words.items) ≡ None }
+    ensures unknown { command_in (texts_of words.now.words.items) ≡ None → (result ≡ 2) ⊎ (result ≡ 9) }
     ensures unread { result ≡ 2 → source.new ≡ source.old }
     ensures refused { (command : Command) → command_in (texts_of words.now.words.items) ≡ Some command → is_of_input result ≡ true
         → IsRefused LIMIT command result (S.left source.old) (S.left source.new) (E.held err.old) (E.held err.new) (E.faults err.old) (E.faults err.new) }
@@ -74,8 +76,10 @@ pub fn plain<S: Source, K: Sink, E: Sink>(
     ensures told { result ≢ 0 → is_of_input result ≡ false → Tells result (E.held err.old) (E.held err.new) (E.faults err.old) (E.faults err.new) }
 {
     no_loop();
-    let Some(command) = command_of(words) else {
-        return refuse(err, &Refusal::Words);
+    let command = match command_of(alloc, words) {
+        Ok(Some(command)) => command,
+        Ok(None) => return refuse(err, &Refusal::Words),
+        Err(OutOfMemory) => return refuse(err, &Refusal::Memory),
     };
     match obey(alloc, command, source, out) {
         Ok(()) => 0,

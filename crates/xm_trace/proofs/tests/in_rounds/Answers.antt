@@ -1,11 +1,13 @@
-use Rattle.std.proofs.Common.{◌≡◌, ◌<◌, ◌+◌, ◌^◌, ◌++◌, ◌∙◌, ℕ, List, ap, ap₂, arith, subst, sym, zero-add}
+use Rattle.std.proofs.Common.{◌≡◌, ◌<◌, ◌+◌, ◌^◌, ◌++◌, ◌∙◌, ℕ, List, ap, ap₂, arith, sym, zero-add}
 use Rattle.xm_model.specs.Component.{Content}
 use Rattle.xm_model.specs.Naming.{Naming, naming_of}
 use Rattle.xm_model.specs.Net.{Network}
 use Rattle.xm_model.specs.Signals.{Signals}
 use Rattle.xm_tape.specs.Taped.{Taped}
+use Rattle.xm_trace.specs.Moves.{round_moves}
 use Rattle.xm_trace.specs.Joining.{follows_run, lines_joined, moved_next}
-use Rattle.xm_trace.specs.Rounds.{RoundsJoin}
+use Rattle.xm_trace.specs.Rounds.{HasHadRun, RoundsJoin}
+use Rattle.xm_trace.specs.Runs.{AreMovesFrom, IsRunOf}
 use Rattle.xm_trace.specs.Text.{round_lines}
 use Rattle.xm_trace.specs.Told.{Follows, Told}
 use Rattle.xm_trace.specs.declared.trace.Move.{Move}
@@ -15,7 +17,7 @@ use Rattle.xm_trace.proofs.tests.in_rounds.Goals as goal
 lines_more : RoundsJoin → (names : Naming) (φ : ℕ → Signals) (from told cycles to : ℕ) (before lines bytes after : List ℕ) → told ≡ from → from + cycles ≡ to → before ≡ round_lines names φ 0 from → lines ≡ round_lines names φ told cycles →
     bytes ≡ lines → after ≡ before ++ bytes → after ≡ round_lines names φ 0 to
 lines_more join names φ from told cycles to before lines bytes after begin end so_far made lent pushed =
-    pushed ∙ ap₂ (λ (x y : List ℕ). x ++ y) so_far (lent) ∙ lines_joined join names φ from told cycles to lines begin end made
+    pushed ∙ ap₂ (λ (x y : List ℕ). x ++ y) so_far lent ∙ lines_joined join names φ from told cycles to lines begin end made
 
 pub loop-from-init : goal.loop-from-init
 loop-from-init c = record {

@@ -1,4 +1,4 @@
-use Rattle.std.proofs.Common.{◌≡◌, ◌≤◌, ◌<◌, ◌+◌, ◌-◌, ◌*◌, ◌∙◌, ◌++◌, ap, arith, length, List, suc}
+use Rattle.std.proofs.Common.{◌≡◌, ◌≤◌, ◌<◌, ◌+◌, ◌-◌, ◌∙◌, ◌++◌, ap, arith, length, List, suc}
 use Rattle.xm_model.specs.Lists.{signals_of}
 use Rattle.xm_model.specs.declared.parts.Wire.{Wire}
 use Rattle.xm_tape.specs.Taped.{cycles_of}
