@@ -42,6 +42,8 @@ front_more held mid now before lines rest text same first more =
     let n = more.0 in
     let within : n ≤ length lines = more.1 in
     let taken : take (length before + n) text ≡ before ++ take n lines =
-        (ap (take (length before + n)) (same ∙ append_assoc before lines rest) ∙ take-append-add before (lines ++ rest) n ∙ ap (λ (x : List ℕ). before ++ x) (take-append-le n lines rest within)) in
-    (length before + n, omega (arith, within, ap length same, length-append (before ++ lines) rest, length-append before lines),
-    subst (λ (t : List ℕ). Appends held now t) (sym taken) (Appends-then held mid now before (take n lines) first more.2))
+    (ap (take (length before + n)) (same ∙ append_assoc before lines rest) ∙ take-append-add before (lines ++ rest) n ∙ ap (λ (x : List ℕ). before ++ x) (take-append-le n lines rest within)) in (
+      length before + n,
+      omega (arith, within, ap length same, length-append (before ++ lines) rest, length-append before lines),
+      subst (λ (t : List ℕ). Appends held now t) (sym taken) (Appends-then held mid now before (take n lines) first more.2),
+    )

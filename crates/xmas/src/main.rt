@@ -7,6 +7,10 @@ mod command;
 mod prepared;
 mod refusal;
 mod running;
+#[cfg(test)]
+mod tests;
+#[cfg(test)]
+mod tests_documents;
 mod top;
 mod writing;
 

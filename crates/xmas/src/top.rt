@@ -53,7 +53,8 @@ pub fn plain<S: Source, K: Sink, E: Sink>(
 ) -> u8
     ensures words { result ≡ 2 → command_in (texts_of words.now.words.items) ≡ None }
     ensures unknown { command_in (texts_of words.now.words.items) ≡ None → (result ≡ 2) ⊎ (result ≡ 9) }
-    ensures unread { result ≡ 2 → source.new ≡ source.old }
+    ensures unread { command_in (texts_of words.now.words.items) ≡ None → source.new ≡ source.old }
+    ensures unwritten { command_in (texts_of words.now.words.items) ≡ None → out.new ≡ out.old }
     ensures refused { (command : Command) → command_in (texts_of words.now.words.items) ≡ Some command → is_of_input result ≡ true
         → IsRefused LIMIT command result (S.left source.old) (S.left source.new) (E.held err.old) (E.held err.new) (E.faults err.old) (E.faults err.new) }
     ensures read { result ≡ 6 → Rose (S.faults source.old) (S.faults source.new) }
