@@ -1,5 +1,5 @@
 -- Inner: one more round of a run, for callers that make its text round by round.
-use Rattle.std.proofs.Common.{◌≡◌, ◌≤◌, ◌<◌, ◌+◌, ◌-◌, ◌++◌, ◌∙◌, ℕ, List, ap, ap₂, arith, append_assoc, sym, zero-add}
+use Rattle.std.proofs.Common.{◌≡◌, ◌≤◌, ◌+◌, ◌-◌, ◌++◌, ◌∙◌, ℕ, List, ap, ap₂, arith, append_assoc, sym, zero-add}
 use Rattle.xm_model.specs.Component.{Content}
 use Rattle.xm_model.specs.Naming.{Naming}
 use Rattle.xm_model.specs.Net.{Network}

@@ -1,6 +1,5 @@
 -- Why bytes are refused, from the faults that were found.
-use Rattle.std.proofs.Common.{◌≡◌, ℕ, true, false, List, Some, Result, Ok, Err, refl, sym, ap, ◌∙◌, subst, inl}
-use Rattle.std.specs.Prelude.{IfErr, IfOk}
+use Rattle.std.proofs.Common.{◌≡◌, ℕ, true, false, List, Some, Result, Ok, Err, refl, sym, ap, subst, inl}
 use Rattle.xm_design.specs.Designed.{Designed, IsColourRefused, IsLoopRefused}
 use Rattle.xm_design.specs.declared.fault.NetFault.{NetFault}
 use Rattle.xm_design.specs.declared.fault.NetFault.TheVariants as net_faults

@@ -1,5 +1,5 @@
 -- What each clause of the top call says, from why a command ended with another status than 0.
-use Rattle.std.proofs.Common.{◌≡◌, ◌≤◌, ℕ, Bool, true, false, List, [], ◌++◌, length, Option, Some, None, Result, Ok, Err, refl, sym, ap, ap₂, ◌∙◌, subst, arith}
+use Rattle.std.proofs.Common.{◌≡◌, ◌≤◌, ℕ, true, false, List, ◌++◌, length, Option, Some, None, Ok, refl, sym, ap, ◌∙◌, subst, arith}
 use Rattle.std.proofs.lemmas.List.{append-nil, length-append}
 use Rattle.std.proofs.Common.{◌⊎◌, inl, inr}
 use Rattle.std.specs.Io.KnownBytes.{Appends}
@@ -12,7 +12,7 @@ use Rattle.xm_netlist.specs.Reading.{document_in}
 use Rattle.xm_order.specs.Loop.{IsLoop, NoLoop}
 use Rattle.xm_tape.specs.Reading.{tape_in}
 use Rattle.xm_tape.specs.Taped.{Taped}
-use Rattle.xmas.specs.Answered.{Change, Ends, IsCause, IsInputRefused, IsWhy}
+use Rattle.xmas.specs.Answered.{Ends, IsCause, IsWhy}
 use Rattle.xmas.specs.Answers.{Gave, IsRefused, PrintsFront, Tells, is_of_input, is_status, line_of, status_of}
 use Rattle.xmas.specs.Answers as plain
 use Rattle.xmas.specs.Causes.{IsDesignOf, IsOutput, Refuses, of_check, of_colour, of_document, of_loop, of_run, of_tape}

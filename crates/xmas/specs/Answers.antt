@@ -1,5 +1,5 @@
 -- What the program answers: its statuses with their lines of error, and its output.
-use Rattle.std.specs.Prelude.{◌≡◌, ◌⊎◌, ℕ, ◌≤◌, List, [], ◌∷◌, ◌||◌, ◌==◌, Bool, codes, length}
+use Rattle.std.specs.Prelude.{ℕ, ◌≤◌, List, ◌||◌, ◌==◌, Bool, codes, length}
 use Rattle.std.specs.declared.option.Option.{Option}
 use Rattle.std.specs.Io.KnownBytes.{Appends}
 use Rattle.xm_io.specs.Bytes.{AppendsFront, ReadsWhole}

@@ -1,4 +1,3 @@
-use Rattle.std.proofs.Common.{refl}
 use Rattle.xmas.proofs.Fronts.{on_ok_goes}
 use Rattle.xmas.proofs.Ran.{lent_value, ran, run_failed}
 use Rattle.xmas.proofs.answer.answer_run.Goals as goal

@@ -1,12 +1,11 @@
-use Rattle.std.proofs.Common.{◌≡◌, ◌<◌, ◌+◌, ◌-◌, ◌^◌, ◌++◌, ◌∙◌, ℕ, List, ap, ap₂, arith, subst, sym, refl}
+use Rattle.std.proofs.Common.{◌≡◌, ◌<◌, ◌+◌, ◌-◌, ◌^◌, ◌++◌, ◌∙◌, ℕ, List, ap, ap₂, arith, sym, refl}
 use Rattle.std.proofs.lemmas.List.{append-nil}
-use Rattle.std.specs.Io.KnownBytes.{Appends}
 use Rattle.xm_io.specs.Appending.{Appends-then}
 use Rattle.xm_model.specs.Naming.{naming_of}
 use Rattle.xm_tape.specs.Taped.{cycles_of}
 use Rattle.xm_trace.specs.Joining.{follows_run, lines_joined, moved_next, rest_of}
-use Rattle.xm_trace.specs.Text.{end_text, round_lines, run_text}
-use Rattle.xmas.proofs.Fronts.{appends_nothing, appends_same, front_more, front_of, no_front, on_err, on_err_goes, on_ok_goes}
+use Rattle.xm_trace.specs.Text.{end_text, round_lines}
+use Rattle.xmas.proofs.Fronts.{appends_nothing, appends_same, front_more, front_of, on_err, on_err_goes, on_ok_goes}
 use Rattle.xmas.proofs.running.write_run.Goals as goal
 
 pub loop-from-init : goal.loop-from-init

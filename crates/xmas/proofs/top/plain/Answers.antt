@@ -1,6 +1,6 @@
-use Rattle.std.proofs.Common.{inr, refl, sym, subst, ◌∙◌, ap, ℕ, ◌≡◌, true, false}
+use Rattle.std.proofs.Common.{inr, refl, sym, subst, ◌∙◌, ap, ℕ, ◌≡◌}
 use Rattle.xmas.specs.Answers.{Tells, is_of_input}
-use Rattle.xmas.proofs.Whys.{status_known, status_some, why_complete, why_told}
+use Rattle.xmas.proofs.Whys.{why_complete, why_told}
 use Rattle.xmas.specs.Causes.{IsOutput}
 use Rattle.xmas.specs.declared.command.Command.{Command}
 use Rattle.xmas.specs.declared.refusal.Refusal.TheVariants as refusal

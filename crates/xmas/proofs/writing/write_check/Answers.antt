@@ -1,4 +1,3 @@
-use Rattle.std.proofs.Common.{subst, sym}
 use Rattle.xmas.proofs.Written.{failed, written}
 use Rattle.xmas.proofs.Checked.{checked}
 use Rattle.xmas.specs.declared.command.Command.TheVariants as command
