@@ -16,19 +16,15 @@ use Rattle.xm_colours.specs.Words.{Has, holds, lacking, set_of, sets_of}
 use Rattle.xm_colours.specs.declared.images.Pair.{Pair}
 use Rattle.xm_model.specs.Component.{Component, component_of}
 use Rattle.xm_model.specs.declared.parts.Primitive.{Primitive}
-use Rattle.xm_model.specs.Counted.{counted, driven_below, first_or_rest, taken_below, takes_counted}
+use Rattle.xm_model.specs.Counted.{counted, driven_below, taken_below}
 use Rattle.xm_model.specs.Limits.{prim_fits}
-use Rattle.xm_model.specs.Net.{HasPrim, IsNet, Network, inputs}
-use Rattle.xm_model.specs.Owner.{In, targets-input}
+use Rattle.xm_model.specs.Net.{HasPrim, IsNet, Network}
+use Rattle.xm_model.specs.Owner.{In}
 use Rattle.xm_model.specs.Ports.{Drives, IsTaker, Takes}
-use Rattle.xm_model.specs.Run.{times}
+use Rattle.xm_model.specs.Takers.{one_taker}
 
 no_colour : (d : ℕ) → holds 0 d ≡ true → ⊥
 no_colour d h = let none = bit_at-zero d in let one = eqb-true (bit_at 0 d) 1 h in absurd (omega arith)
-
-in_times : (cs : List ℕ) (c : ℕ) → 0 < times c cs → In c cs
-in_times [] c h = absurd (omega arith)
-in_times (k ∷ cs) c h = elim (first_or_rest k c (times c cs) h) [ inl same ↦ inl same | inr more ↦ inr (in_times cs c more) ]
 
 -- no channel has a colour
 none_has : (n c d : ℕ) → Has (replicate n 0) c d → ⊥
@@ -64,16 +60,6 @@ prim_within net prims n i same past inside =
     let whole = ap length same in
     let count = length-map prims component_of in
     omega arith
-
--- the primitive that takes from a channel
-pub one_taker : (net : Network) → IsNet net → (i j : ℕ) (m q : Component) (c : ℕ) → HasPrim net i m → HasPrim net j q → Takes m c → Takes q c → m ≡ q
-one_taker net is_net i j m q c has_m has_q takes_m takes_q =
-    let below = taken_below net (counted net is_net) i m c has_m takes_m in
-    let first = targets-input net is_net.wired i c m has_m below (in_times (inputs m) c (takes_counted m c takes_m)) in
-    let second = targets-input net is_net.wired j c q has_q below (in_times (inputs q) c (takes_counted q c takes_q)) in
-    let same : i ≡ j = cc in
-    let at : slice_get net.prims i ≡ slice_get net.prims j = ap (slice_get net.prims) same in
-    cc
 
 module _ (net : Network) (is_net : IsNet net) where
   -- what a primitive brings or makes are pairs of the net
@@ -147,7 +133,7 @@ module _ (net : Network) (is_net : IsNet net) where
       there = so.has it (in_right it front (it ∷ []) (inl refl))
 
       went : IsPassed net new_words it.channel it.colour
-      went j q at t x s = adds.added x (subst (λ (p : Component). In x (sent p it)) (one_taker net is_net j i q m it.channel at has t takes) s)
+      went j q at t x s = adds.added x (subst (λ (p : Component). In x (sent p it)) (one_taker net is_net j i it.channel q m at has t takes) s)
 
       longer : length (front ++ it ∷ []) ≡ length front + 1
       longer = simp length-append refl

@@ -5,11 +5,10 @@ use Rattle.std.proofs.lemmas.Result.{IfOk-weaker}
 use Rattle.std.specs.Prelude.{IfOk, Result}
 use Rattle.smallvec.specs.SmallVec.{SmallVec}
 use Rattle.xm_model.specs.Component.{Component, Fork, Function, Join, Merge, Switch}
-use Rattle.xm_model.specs.Counted.{counted, first_or_rest, one_prim, taken_below, takes_counted}
-use Rattle.xm_model.specs.Net.{HasPrim, IsNet, Network, inputs, targets}
-use Rattle.xm_model.specs.Owner.{In, targets-input}
-use Rattle.xm_model.specs.Run.{times}
+use Rattle.xm_model.specs.Counted.{counted, one_prim}
+use Rattle.xm_model.specs.Net.{HasPrim, IsNet, Network}
 use Rattle.xm_model.specs.Ports.{Drives, IsDriver, IsTaker, Takes, fork_drives_a, fork_drives_b, fork_takes, function_drives, function_takes, join_drives, join_takes_a, join_takes_b, merge_drives, merge_takes_a, merge_takes_b, switch_drives_a, switch_drives_b, switch_takes}
+use Rattle.xm_model.specs.Takers.{one_taker}
 use Rattle.xm_model.specs.declared.parts.Side.{Side}
 use Rattle.xm_order.proofs.Within.{given}
 use Rattle.xm_order.specs.Dependence
@@ -160,23 +159,7 @@ join_ready_other a b out c other pass o join_takes_b = subst (λ (d : ℕ). Need
 pub join_readies : (a b out c other : ℕ) (pass : Side) → IsOther a b c other → Takes (Join a b out pass) c → ListsAll (Needs (Join a b out pass) (signal.Ready c)) (signal.Ready out ∷ signal.Offer other ∷ [])
 join_readies a b out c other pass o t = lists_two (Needs (Join a b out pass) (signal.Ready c)) _ _ (join_ready_out a b out c pass t) (join_ready_other a b out c other pass o t) (join_ready_only a b out c other pass o)
 
-in_from_count : (cs : List ℕ) (c : ℕ) → 0 < times c cs → In c cs
-in_from_count [] c h = absurd (omega arith)
-in_from_count (k ∷ cs) c h = elim (first_or_rest k c (times c cs) h) [ inl same ↦ inl same | inr more ↦ inr (in_from_count cs c more) ]
-
 module _ (net : Network) (is_net : IsNet net) where
-  taker_place : (p c : ℕ) (m : Component) → HasPrim net p m → Takes m c → targets net.prims c ≡ p ∷ []
-  taker_place p c m has takes = targets-input net is_net.wired p c m has (taken_below net (counted net is_net) p m c has takes) (in_from_count (inputs m) c (takes_counted m c takes))
-
-  -- a channel has one taker
-  one_taker : (p q c : ℕ) (m n : Component) → HasPrim net p m → HasPrim net q n → Takes m c → Takes n c → m ≡ n
-  one_taker p q c m n has_m has_n takes_m takes_n =
-      let at_p = taker_place p c m has_m takes_m in
-      let at_q = taker_place q c n has_n takes_n in
-      let same : p ≡ q = cc in
-      let there : slice_get net.prims p ≡ slice_get net.prims q = ap (slice_get net.prims) same in
-      cc
-
   -- what the initiator needs for the offer of a channel is all that the offer depends on
   pub offer_depends : (p c : ℕ) (m : Component) (places : List Signal) → HasPrim net p m → Drives m c → ListsAll (Needs m (signal.Offer c)) places → ListsAll (Depends net (signal.Offer c)) places
   offer_depends p c m places has drives lists = record {
@@ -191,7 +174,7 @@ module _ (net : Network) (is_net : IsNet net) where
   ready_depends p c m places has takes lists = record {
     each = λ k σ at. record { place = p; prim = m; has = has; needs = lists.each k σ at };
     whole = λ σ d.
-        let same : d.prim ≡ m = one_taker d.place p c d.prim m d.has has (given d.prim (signal.Ready c) σ d.needs) takes in
+        let same : d.prim ≡ m = one_taker net is_net d.place p c d.prim m d.has has (given d.prim (signal.Ready c) σ d.needs) takes in
         lists.whole σ (subst (λ (x : Component). Needs x (signal.Ready c) σ) same d.needs);
   }
 
