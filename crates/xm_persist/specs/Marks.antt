@@ -61,10 +61,6 @@ target_mark (Join a b out pass) c marks = marks (signal.Ready out) && marks (sig
 target_mark (Switch input a b to_a) c marks = true
 target_mark (Merge a b out) c marks = true
 
-abbrev pub made_mark : Component → Signal → (Signal → Bool) → Bool
-made_mark m (signal.Offer c) marks = initiator_mark m c marks
-made_mark m (signal.Ready c) marks = target_mark m c marks
-
 -- a mark is true exactly where the right is granted
 abbrev pub IsExact : Network → (Signal → Bool) → Signal → Type 0
 IsExact net marks σ = (marks σ ≡ true) ↔ Granted net (right_of σ)

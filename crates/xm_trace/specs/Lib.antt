@@ -1,4 +1,5 @@
 pub mod Joining
+pub mod Labels
 pub mod Moves
 pub mod Rounds
 pub mod Runs

@@ -12,9 +12,13 @@ use Rattle.xm_tape.specs.Taped.{Taped, cycles_of}
 use Rattle.xm_trace.specs.Runs.{IsRunOf}
 use Rattle.xm_trace.specs.declared.trace.Move.{Move}
 
--- a space, the channel, a colon and the colour
+-- a space, the channel and a colon
+abbrev pub move_label : List ℕ → List ℕ
+move_label channel = codes " " ++ channel ++ codes ":"
+
+-- and the colour
 abbrev pub move_text : Naming → Move → List ℕ
-move_text names m = codes " " ++ name_at names.channels m.channel ++ codes ":" ++ name_at names.colours m.colour
+move_text names m = move_label (name_at names.channels m.channel) ++ name_at names.colours m.colour
 
 -- the number of the cycle and its moves
 abbrev pub cycle_line : Naming → (ℕ → Signals) → ℕ → List ℕ

@@ -1,6 +1,7 @@
 //! The run of a design under a tape: its moves, round by round, and its text.
 #![tactic(auto)]
 
+mod labels;
 mod laws;
 mod run_text;
 mod sums;

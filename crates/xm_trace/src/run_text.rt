@@ -80,7 +80,7 @@ impl RunText {
         ensures err { OnErr result (self.new ≡ self.old) }
     {
         let mut text = Text::new(alloc);
-        push_round(&mut text, names, self.cycles, part)?;
+        push_round(alloc, &mut text, names, self.cycles, part)?;
         count_moves(
             self.sums.as_mut_slice(),
             self.channels as usize,

@@ -36,6 +36,7 @@ pub fn no_sums(alloc: Global, count: u32) -> Result<List<u64>, OutOfMemory>
 }
 
 /// Adds the moves to the sums: that of colour `d` on channel `c` stands at `c * colours + d`.
+#[inline(never)]
 pub fn count_moves(sums: &mut [u64], channels: usize, colours: usize, moves: &[Move])
     requires table { IsTable channels colours sums.old }
     requires room { (c d : ℕ) → c < channels → d < colours → sum_at sums.old colours c d < 2 ^ 32 }

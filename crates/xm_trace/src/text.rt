@@ -5,11 +5,13 @@ ghost use Rattle.std.specs.List.{flat_map, prefix_len};
 ghost use Rattle.xm_model.specs.Lines.{line, name_at};
 ghost use Rattle.xm_model.specs.Naming.{naming_of, texts_of};
 ghost use Rattle.xm_model.specs.Signals.{Signals};
+ghost use Rattle.xm_trace.specs.Labels.{AreLabels};
 ghost use Rattle.xm_trace.specs.Moves.{round_moves, run_moves};
 ghost use Rattle.xm_trace.specs.Sums.{sum_at};
 ghost use Rattle.xm_trace.specs.Table.{IsTable};
 ghost use Rattle.xm_trace.specs.Text.{channel_sums, end_line, move_text, round_lines, run_text, sum_line, sum_lines};
 
+use crate::labels::{label_at, labels_of};
 use crate::sums::sums_of;
 use crate::trace::{Move, Trace};
 use std::alloc::Global;
@@ -24,30 +26,42 @@ fn name_of(names: &[Text], i: usize) -> &[u8]
     }
 }
 
-fn push_move(text: &mut Text, names: &Names, it: Move) -> Result<(), OutOfMemory>
+fn push_move(text: &mut Text, names: &Names, labels: &[Text], it: Move) -> Result<(), OutOfMemory>
+    requires { AreLabels names.now.channels.items labels.now }
     ensures { OnOk result (text.new.items ≡ text.old.items ++ move_text (naming_of names.now) it) }
 {
-    text.push_bytes(b" ")?;
-    text.push_bytes(name_of(names.channels.as_slice(), it.channel as usize))?;
-    text.push_bytes(b":")?;
+    text.push_bytes(label_at(labels, it.channel as usize))?;
     text.push_bytes(name_of(names.colours.as_slice(), usize::from(it.colour)))
 }
 
-fn push_moves(text: &mut Text, names: &Names, moves: &[Move]) -> Result<(), OutOfMemory>
+fn push_moves(
+    text: &mut Text,
+    names: &Names,
+    labels: &[Text],
+    moves: &[Move],
+) -> Result<(), OutOfMemory>
+    requires { AreLabels names.now.channels.items labels.now }
     ensures { OnOk result (text.new.items ≡ text.old.items ++ flat_map (move_text (naming_of names.now)) moves.now) }
 {
     for it in moves {
-        push_move(text, names, *it)?;
+        push_move(text, names, labels, *it)?;
     }
     Ok(())
 }
 
 /// The line of cycle `t`, which has these moves.
-fn push_cycle(text: &mut Text, names: &Names, t: u32, moves: &[Move]) -> Result<(), OutOfMemory>
+fn push_cycle(
+    text: &mut Text,
+    names: &Names,
+    labels: &[Text],
+    t: u32,
+    moves: &[Move],
+) -> Result<(), OutOfMemory>
+    requires { AreLabels names.now.channels.items labels.now }
     ensures { OnOk result (text.new.items ≡ text.old.items ++ line (decimal t ++ flat_map (move_text (naming_of names.now)) moves.now)) }
 {
     text.push_number(i128::from(t))?;
-    push_moves(text, names, moves)?;
+    push_moves(text, names, labels, moves)?;
     text.push_bytes(b"\n")
 }
 
@@ -66,7 +80,9 @@ fn cycle_end(moves: &[Move], from: usize, t: u32) -> usize
 }
 
 /// A line for each cycle of the part, which begins with cycle `from`.
+#[inline(never)]
 pub fn push_round(
+    alloc: Global,
     text: &mut Text,
     names: &Names,
     from: u32,
@@ -76,12 +92,13 @@ pub fn push_round(
     ensures { (φ : ℕ → Signals) → part.now.moves.items ≡ round_moves φ (length (naming_of names.now).channels) from part.now.cycles
         → OnOk result (text.new.items ≡ text.old.items ++ round_lines (naming_of names.now) φ from part.now.cycles) }
 {
+    let labels = labels_of(alloc, names.channels.as_slice())?;
     let moves = part.moves.as_slice();
     let mut start = 0;
     for k in 0..part.cycles {
         let t = from + k;
         let end = cycle_end(moves, start, t);
-        push_cycle(text, names, t, &moves[start..end])?;
+        push_cycle(text, names, labels.as_slice(), t, &moves[start..end])?;
         start = end;
     }
     Ok(())
@@ -159,7 +176,7 @@ pub fn trace_text(alloc: Global, names: &Names, trace: &Trace) -> Result<Text, O
     )?;
     let cycles = trace.cycles;
     let mut text = Text::new(alloc);
-    push_round(&mut text, names, 0, trace)?;
+    push_round(alloc, &mut text, names, 0, trace)?;
     push_end(&mut text, names, sums.as_slice(), cycles)?;
     Ok(text)
 }

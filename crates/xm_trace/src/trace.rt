@@ -48,6 +48,7 @@ fn note_move(moves: &mut List<Move>, t: u32, c: u32, wire: Wire)
 }
 
 /// Notes the moves of cycle `t`, by channel. There is room for one on each.
+#[inline(never)]
 fn note_moves(moves: &mut List<Move>, t: u32, wires: &[Wire])
     requires channels { length wires.now ≤ 8192 }
     requires room { length moves.old.items + length wires.now ≤ moves.old.room }

@@ -32,10 +32,6 @@ front_of held now before rest text same appended =
     let taken : take (length before) text ≡ before = ap (take (length before)) same ∙ take-append_seam before rest in
     (length before, omega (arith, ap length same ∙ length-append before rest), subst (λ (t : List ℕ). Appends held now t) (sym taken) appended)
 
--- nothing was appended yet
-pub no_front : (held : Option (List ℕ)) (text : List ℕ) → AppendsFront held held text
-no_front held text = front_of held held [] text text refl (appends_nothing held)
-
 -- and then a front of the lines that follow
 pub front_more : (held mid now : Option (List ℕ)) (before lines rest text : List ℕ) → text ≡ (before ++ lines) ++ rest → Appends held mid before → AppendsFront mid now lines → AppendsFront held now text
 front_more held mid now before lines rest text same first more =

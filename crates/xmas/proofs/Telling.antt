@@ -7,8 +7,3 @@ use Rattle.xm_io.specs.Bytes.{AppendsFront}
 
 pub whole_is_front : (held now : Option (List ℕ)) (text : List ℕ) → Appends held now text → AppendsFront held now text
 whole_is_front held now text h = (length text, omega arith, subst (λ (t : List ℕ). Appends held now t) (sym (take_all (length text) text (omega arith))) h)
-
--- either way a front was written
-pub front_written : {T F : Type 0} (result : Result T F) (held now : Option (List ℕ)) (text : List ℕ) → OnOk result (Appends held now text) → OnErr result (AppendsFront held now text) → AppendsFront held now text
-front_written (Ok x) held now text ok err = whole_is_front held now text ok
-front_written (Err e) held now text ok err = err

@@ -21,18 +21,6 @@ use Rattle.xmas.specs.declared.command.Command.TheVariants as command
 use Rattle.xmas.specs.declared.refusal.Refusal.{Refusal}
 use Rattle.xmas.specs.declared.refusal.Refusal.TheVariants as refusal
 
--- the cause that the answer to the bytes gives
-pub why_of : {K : Type 0} (limit : ℕ) (it : Command) (ends : Ends K) (bytes : List ℕ) (r : Refusal) → Gave limit ends.left ends.rest bytes → IsCause bytes it ends.sink r → IsWhy limit it ends r
-why_of limit it ends bytes refusal.Words gave cause = cause
-why_of limit it ends bytes (refusal.Document line) gave cause = record { bytes = bytes; gave = gave; refused = cause.0; quiet = cause.1 }
-why_of limit it ends bytes (refusal.Net line) gave cause = record { bytes = bytes; gave = gave; refused = cause.0; quiet = cause.1 }
-why_of limit it ends bytes (refusal.Tape line) gave cause = record { bytes = bytes; gave = gave; refused = cause.0; quiet = cause.1 }
-why_of limit it ends bytes refusal.Read gave cause = absurd cause
-why_of limit it ends bytes refusal.Write gave cause = (cause.0, record { bytes = bytes; gave = gave; printed = cause.1 })
-why_of limit it ends bytes refusal.Memory gave (inl same) = inl same
-why_of limit it ends bytes refusal.Memory gave (inr printed) = inr (record { bytes = bytes; gave = gave; printed = printed })
-why_of limit it ends bytes refusal.TooLong gave cause = absurd cause
-
 -- a source has one text to its end
 same_bytes : (left rest : Option (List ℕ)) (bytes read : List ℕ) → left ≡ Some bytes → ReadsWhole left rest read → read ≡ bytes
 same_bytes None rest bytes read is whole = cc
@@ -88,76 +76,6 @@ excludes none {bytes = bytes} (of_tape doc it fault read design failed) is =
     cc
 
 module _ {K : Type 0} (limit : ℕ) (it : Command) (ends : Ends K) where
-  pub why_refused : (r : Refusal) (held now : Option (List ℕ)) (faults later : ℕ) → IsWhy limit it ends r → is_of_input (status_of r) ≡ true → AppendsFront held now (line_of r)
-      → ((Rose faults later → ⊥) → Appends held now (line_of r)) → IsRefused limit it (status_of r) ends.left ends.rest held now faults later
-  why_refused refusal.Words held now faults later why of told whole = absurd why
-  why_refused (refusal.Document line) held now faults later why of told whole = record { bytes = why.bytes; gave = why.gave; line = line.items; refused = why.refused; told = told; told_whole = whole }
-  why_refused (refusal.Net line) held now faults later why of told whole = record { bytes = why.bytes; gave = why.gave; line = line.items; refused = why.refused; told = told; told_whole = whole }
-  why_refused (refusal.Tape line) held now faults later why of told whole = record { bytes = why.bytes; gave = why.gave; line = line.items; refused = why.refused; told = told; told_whole = whole }
-  why_refused refusal.Read held now faults later why of told whole = cc
-  why_refused refusal.Write held now faults later why of told whole = cc
-  why_refused refusal.Memory held now faults later why of told whole = cc
-  why_refused refusal.TooLong held now faults later why of told whole = cc
-
-  pub why_read : (r : Refusal) → IsWhy limit it ends r → status_of r ≡ 6 → Rose ends.harmed ends.later × TakesAtMost limit ends.left ends.rest
-  why_read refusal.Words why is = cc
-  why_read (refusal.Document line) why is = cc
-  why_read (refusal.Net line) why is = cc
-  why_read (refusal.Tape line) why is = cc
-  why_read refusal.Read why is = (why.0, why.1)
-  why_read refusal.Write why is = cc
-  why_read refusal.Memory why is = cc
-  why_read refusal.TooLong why is = cc
-
-  pub why_long : (r : Refusal) → IsWhy limit it ends r → status_of r ≡ 10 → TakesMoreThan limit ends.left ends.rest
-  why_long refusal.Words why is = cc
-  why_long (refusal.Document line) why is = cc
-  why_long (refusal.Net line) why is = cc
-  why_long (refusal.Tape line) why is = cc
-  why_long refusal.Read why is = cc
-  why_long refusal.Write why is = cc
-  why_long refusal.Memory why is = cc
-  why_long refusal.TooLong why is = why.0
-
-  pub why_write : (r : Refusal) → IsWhy limit it ends r → status_of r ≡ 7 → Rose ends.sink.faults ends.sink.later × PrintsFront limit it ends.left ends.rest ends.sink.held ends.sink.now
-  why_write refusal.Words why is = cc
-  why_write (refusal.Document line) why is = cc
-  why_write (refusal.Net line) why is = cc
-  why_write (refusal.Tape line) why is = cc
-  why_write refusal.Read why is = cc
-  why_write refusal.Write why is = why
-  why_write refusal.Memory why is = cc
-  why_write refusal.TooLong why is = cc
-
-  pub why_memory : (r : Refusal) → IsWhy limit it ends r → status_of r ≡ 9 → (ends.sink.new ≡ ends.sink.old) ⊎ PrintsFront limit it ends.left ends.rest ends.sink.held ends.sink.now
-  why_memory refusal.Words why is = cc
-  why_memory (refusal.Document line) why is = cc
-  why_memory (refusal.Net line) why is = cc
-  why_memory (refusal.Tape line) why is = cc
-  why_memory refusal.Read why is = cc
-  why_memory refusal.Write why is = cc
-  why_memory refusal.Memory why is = why
-  why_memory refusal.TooLong why is = cc
-
-  pub why_not_words : (r : Refusal) → IsWhy limit it ends r → status_of r ≡ 2 → ⊥
-  why_not_words refusal.Words why is = absurd why
-  why_not_words (refusal.Document line) why is = cc
-  why_not_words (refusal.Net line) why is = cc
-  why_not_words (refusal.Tape line) why is = cc
-  why_not_words refusal.Read why is = cc
-  why_not_words refusal.Write why is = cc
-  why_not_words refusal.Memory why is = cc
-  why_not_words refusal.TooLong why is = cc
-
-  pub why_quiet : (r : Refusal) → IsWhy limit it ends r → (status_of r ≡ 7 → ⊥) → (status_of r ≡ 9 → ⊥) → ends.sink.new ≡ ends.sink.old
-  why_quiet refusal.Words why no_write no_memory = absurd why
-  why_quiet (refusal.Document line) why no_write no_memory = why.quiet
-  why_quiet (refusal.Net line) why no_write no_memory = why.quiet
-  why_quiet (refusal.Tape line) why no_write no_memory = why.quiet
-  why_quiet refusal.Read why no_write no_memory = why.2
-  why_quiet refusal.Write why no_write no_memory = absurd (no_write refl)
-  why_quiet refusal.Memory why no_write no_memory = absurd (no_memory refl)
-  why_quiet refusal.TooLong why no_write no_memory = why.1
 
   pub why_complete : NoLoop → (bytes text : List ℕ) → ends.left ≡ Some bytes → length bytes ≤ limit → IsOutput bytes it text → (Rose ends.harmed ends.later → ⊥) → (Rose ends.sink.faults ends.sink.later → ⊥) → (r : Refusal) → IsWhy limit it ends r → status_of r ≡ 9
   why_complete none bytes text is within output no_read no_write refusal.Words why = absurd why
@@ -168,26 +86,6 @@ module _ {K : Type 0} (limit : ℕ) (it : Command) (ends : Ends K) where
   why_complete none bytes text is within output no_read no_write refusal.Write why = absurd (no_write why.0)
   why_complete none bytes text is within output no_read no_write refusal.Memory why = refl
   why_complete none bytes text is within output no_read no_write refusal.TooLong why = absurd (not_longer limit ends.left ends.rest bytes is within why.0)
-
-pub status_known : (r : Refusal) → is_status (status_of r) ≡ true
-status_known refusal.Words = refl
-status_known (refusal.Document line) = refl
-status_known (refusal.Net line) = refl
-status_known (refusal.Tape line) = refl
-status_known refusal.Read = refl
-status_known refusal.Write = refl
-status_known refusal.Memory = refl
-status_known refusal.TooLong = refl
-
-pub status_some : (r : Refusal) → status_of r ≡ 0 → ⊥
-status_some refusal.Words is = cc
-status_some (refusal.Document line) is = cc
-status_some (refusal.Net line) is = cc
-status_some (refusal.Tape line) is = cc
-status_some refusal.Read is = cc
-status_some refusal.Write is = cc
-status_some refusal.Memory is = cc
-status_some refusal.TooLong is = cc
 
 pub why_told : (r : Refusal) (held now : Option (List ℕ)) (faults later : ℕ) → is_of_input (status_of r) ≡ false → AppendsFront held now (line_of r) → ((Rose faults later → ⊥) → Appends held now (line_of r))
     → Tells (status_of r) held now faults later
