@@ -4,7 +4,7 @@ use Rattle.xm_model.specs.Component.{Component}
 use Rattle.xm_model.specs.Naming.{Naming}
 use Rattle.xm_model.specs.Net.{IsFirstFault, IsWellWired, IsWiredAt, Network, fault_at}
 use Rattle.xm_model.specs.declared.parts.WiringFault.{WiringFault}
-use Rattle.xm_netlist.specs.Fault.{wiring}
+use Rattle.xm_shape.specs.Fault.{wiring}
 use Rattle.xm_netlist.specs.Numbered.{wired, wiring_from}
 
 no_fault : (prims : List Component) (c : ℕ) → IsWiredAt prims c → fault_at prims c ≡ None

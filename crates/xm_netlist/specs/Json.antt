@@ -4,9 +4,9 @@ use Rattle.std.specs.Str.{is_utf8, IsUtf8}
 use Rattle.std.proofs.lemmas.Str.{is_utf8-from_IsUtf8, IsUtf8-from_is_utf8}
 use Rattle.serde_json.specs.Data.{Data}
 use Rattle.serde_json.specs.Read.{read}
-use Rattle.xm_netlist.specs.Fault.{not_json}
+use Rattle.xm_model.specs.Steps.{demand}
+use Rattle.xm_shape.specs.Fault.{not_json}
 use Rattle.xm_netlist.specs.Reading.{json_of}
-use Rattle.xm_netlist.specs.Steps.{demand}
 
 pub json_known : (bytes : List ℕ) (d : Data) → IsUtf8 bytes → read bytes ≡ Some d → demand (json_of bytes) not_json ≡ Ok d
 unfolding json_of

@@ -10,7 +10,7 @@ ghost use Rattle.xm_report.specs.Seen.{document_fault, tape_fault};
 use crate::pieces::{push_count, push_name};
 use std::alloc::Global;
 use xm_model::{Names, OutOfMemory, Text, WiringFault};
-use xm_netlist::{DocFault, Which};
+use xm_shape::{DocFault, Which};
 use xm_order::Signal;
 use xm_tape::TapeFault;
 

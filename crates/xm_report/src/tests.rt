@@ -5,7 +5,7 @@ use xm_design::Design;
 use xm_model::{
     List, Names, Net, NewFault, OutOfMemory, Prim, SinkMode, SourceMode, Text, WiringFault,
 };
-use xm_netlist::{DocFault, Which};
+use xm_shape::{DocFault, Which};
 use xm_order::Signal;
 use xm_tape::TapeFault;
 

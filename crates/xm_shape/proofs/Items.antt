@@ -8,13 +8,13 @@ use Rattle.std.specs.Map.{keys_of}
 use Rattle.serde_json.specs.Data.{Data}
 use Rattle.serde_json.specs.View.{items_view, members_view, view}
 use Rattle.serde_json.specs.declared.value.Value.{Value}
-use Rattle.xm_netlist.specs.Draft as plain
-use Rattle.xm_netlist.specs.Draft.{channel_names}
-use Rattle.xm_netlist.specs.Drafted.{allowing_seen}
-use Rattle.xm_netlist.specs.Names.{Name, is_among}
-use Rattle.xm_netlist.specs.Shape.{are_channels, has_only, list_of}
-use Rattle.xm_netlist.specs.declared.draft.Allowing.{Allowing}
-use Rattle.xm_netlist.proofs.Uses.{list_any-map}
+use Rattle.xm_shape.specs.Draft as plain
+use Rattle.xm_shape.specs.Draft.{channel_names}
+use Rattle.xm_shape.specs.Drafted.{allowing_seen}
+use Rattle.xm_shape.specs.Names.{Name, is_among}
+use Rattle.xm_shape.specs.Shape.{are_channels, has_only, list_of}
+use Rattle.xm_shape.specs.Uses.{list_any-map}
+use Rattle.xm_shape.specs.declared.draft.Allowing.{Allowing}
 
 pub list_of-items_view : (vs : List Value) → list_of (items_view vs) ≡ map view vs
 list_of-items_view [] = refl

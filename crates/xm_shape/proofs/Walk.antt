@@ -1,23 +1,8 @@
 -- A loop that takes a step for each item, up to the first fault.
 use Rattle.std.proofs.Common.{◌≡◌, ℕ, suc, ◌+◌, ◌<◌, List, [], ◌∷◌, ◌++◌, length, get_or, drop, map, Result, Ok, Err, refl, sym, ap, ◌∙◌, append_assoc, add-one}
-use Rattle.xm_netlist.specs.Fault.{Fault}
-use Rattle.xm_netlist.specs.Gives.{Fails}
-use Rattle.xm_netlist.specs.Steps.{◌>>=◌, each_from}
-use Rattle.xm_netlist.specs.declared.fault.DocFault.{DocFault}
-use Rattle.xm_netlist.specs.declared.fault.DocFault.TheVariants as faults
-use Rattle.xm_netlist.proofs.Uses.{cut_at}
-
--- the fault of a step is that of all that goes on with it
-pub Fails-bind : {A B : Type 0} (e : DocFault) (r : Result A Fault) (k : A → Result B Fault) → Fails e r → Fails e (r >>= k)
-Fails-bind faults.OutOfMemory r k fails = tt
-Fails-bind faults.NotJson r k fails = rw fails refl
-Fails-bind (faults.Shape path) r k fails = rw fails refl
-Fails-bind (faults.UnknownKind path) r k fails = rw fails refl
-Fails-bind (faults.UnknownColour path) r k fails = rw fails refl
-Fails-bind (faults.BadName path) r k fails = rw fails refl
-Fails-bind (faults.SameName path) r k fails = rw fails refl
-Fails-bind (faults.Limit which count) r k fails = rw fails refl
-Fails-bind (faults.Wiring fault names) r k fails = rw fails refl
+use Rattle.xm_model.specs.Steps.{◌>>=◌, each_from}
+use Rattle.xm_shape.specs.Fault.{Fault}
+use Rattle.xm_shape.specs.Uses.{cut_at}
 
 -- what was read before, and what is still read
 abbrev pub with_front : {B : Type 0} → List B → Result (List B) Fault → Result (List B) Fault
@@ -31,7 +16,7 @@ regroup front y (Err e) = refl
 pub goes_on : {X A B : Type 0} (seen : X → A) (f : ℕ → A → Result B Fault) (front : List B) (xs : List X) (i : ℕ) (x : X) (y : B) (total : Result (List B) Fault) → i < length xs → x ≡ get_or xs i x → f i (seen x) ≡ Ok y
     → with_front front (each_from f i (map seen (drop i xs))) ≡ total → with_front (front ++ y ∷ []) (each_from f (i + 1) (map seen (drop (i + 1) xs))) ≡ total
 goes_on {X} seen f front xs i x y total lt is ok so_far =
-    let cut = cut_at xs i x lt is in
+    let cut = cut_at xs i x x lt is in
     let one : with_front front (each_from f i (map seen (drop i xs))) ≡ with_front (front ++ y ∷ []) (each_from f (i + 1) (map seen (drop (i + 1) xs))) =
     rw (cut, ok, add-one) (regroup front y (each_from f (suc i) (map seen (drop (suc i) xs)))) in
     sym one ∙ so_far

@@ -4,7 +4,7 @@ use Rattle.std.specs.List.{flat_map}
 use Rattle.xm_model.specs.declared.parts.Side.{Side}
 use Rattle.xm_model.specs.declared.parts.SinkMode.{SinkMode}
 use Rattle.xm_model.specs.declared.parts.SourceMode.{SourceMode}
-use Rattle.xm_netlist.specs.Names.{Name, first_uses}
+use Rattle.xm_shape.specs.Names.{Name, first_uses}
 
 -- the members of a map, in byte order: a colour, and the colour that it becomes
 abbrev pub Table : Type 0

@@ -1,18 +1,14 @@
--- The code's draft and document, in plain lists.
-use Rattle.std.specs.Prelude.{List, map, option_map, String, string_bytes}
+-- The code's draft, in plain lists.
+use Rattle.std.specs.Prelude.{List, map, String, string_bytes}
 use Rattle.std.specs.declared.alloc.Global.{Global}
-use Rattle.serde_json.specs.View.{view}
-use Rattle.xm_model.specs.Naming.{allowed_of, naming_of}
-use Rattle.xm_netlist.specs.Doc.{Doc}
-use Rattle.xm_netlist.specs.Draft as plain
-use Rattle.xm_netlist.specs.Names.{Name}
-use Rattle.xm_netlist.specs.declared.document.Document.{Document}
-use Rattle.xm_netlist.specs.declared.draft.Allowing as code_allowing
-use Rattle.xm_netlist.specs.declared.draft.Draft as code_draft
-use Rattle.xm_netlist.specs.declared.draft.Form as code_form
-use Rattle.xm_netlist.specs.declared.draft.Form.TheVariants as forms
-use Rattle.xm_netlist.specs.declared.draft.Image as code_image
-use Rattle.xm_netlist.specs.declared.draft.Part as code_part
+use Rattle.xm_shape.specs.Draft as plain
+use Rattle.xm_shape.specs.Names.{Name}
+use Rattle.xm_shape.specs.declared.draft.Allowing as code_allowing
+use Rattle.xm_shape.specs.declared.draft.Draft as code_draft
+use Rattle.xm_shape.specs.declared.draft.Form as code_form
+use Rattle.xm_shape.specs.declared.draft.Form.TheVariants as forms
+use Rattle.xm_shape.specs.declared.draft.Image as code_image
+use Rattle.xm_shape.specs.declared.draft.Part as code_part
 
 abbrev pub names_seen : List (String Global) → List Name
 names_seen texts = map string_bytes texts
@@ -41,12 +37,3 @@ allowing_seen entry = record { channel = string_bytes entry.channel; colours = n
 
 abbrev pub draft_seen : code_draft.Draft → plain.Draft
 draft_seen draft = record { colours = names_seen draft.colours.items; parts = map part_seen draft.parts.items; allow = map allowing_seen draft.allow.items }
-
-abbrev pub doc_of : Document → Doc
-doc_of d = record {
-  net = d.net;
-  names = naming_of d.names;
-  allow = map allowed_of d.allow.items;
-  tape = option_map view d.tape;
-  proof = option_map view d.proof;
-}

@@ -2,7 +2,7 @@
 use Rattle.std.specs.Prelude.{ℕ, List, ◌∷◌, ◌++◌, decimal}
 use Rattle.xm_model.specs.Naming.{Naming}
 use Rattle.xm_model.specs.declared.parts.WiringFault.{WiringFault}
-use Rattle.xm_netlist.specs.declared.fault.Which.{Which}
+use Rattle.xm_shape.specs.declared.fault.Which.{Which}
 
 -- a path is made of member names and list places, joined by dots; that of the root is -
 pub data Fault : Type 0 where

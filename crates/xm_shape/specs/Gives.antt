@@ -1,9 +1,9 @@
 -- What a step of reading says where it may also find no memory.
 use Rattle.std.specs.Prelude.{◌≡◌, Result, Ok, Err}
 use Rattle.xm_model.specs.Naming.{naming_of}
-use Rattle.xm_netlist.specs.Fault.{Fault, bad_name, limit, not_json, same_name, shape, unknown_colour, unknown_kind, wiring}
-use Rattle.xm_netlist.specs.declared.fault.DocFault.{DocFault}
-use Rattle.xm_netlist.specs.declared.fault.DocFault.TheVariants as faults
+use Rattle.xm_shape.specs.Fault.{Fault, bad_name, limit, not_json, same_name, shape, unknown_colour, unknown_kind, wiring}
+use Rattle.xm_shape.specs.declared.fault.DocFault.{DocFault}
+use Rattle.xm_shape.specs.declared.fault.DocFault.TheVariants as faults
 
 -- The error is the fault that reading meets first. Want of memory may stand in place of any answer.
 abbrev pub Fails : {Y : Type 0} → DocFault → Result Y Fault → Type 0

@@ -1,13 +1,13 @@
 -- Inner: the kinds of the code, as those of the shape, and a step of reading a primitive.
 use Rattle.std.specs.Prelude.{ℕ, List, Result, Ok, codes}
 use Rattle.serde_json.specs.Data.{Data}
-use Rattle.xm_netlist.specs.Draft.{Part}
-use Rattle.xm_netlist.specs.Fault.{Fault}
-use Rattle.xm_netlist.specs.Shape.{form_in, text_member}
-use Rattle.xm_netlist.specs.Shape as shape
-use Rattle.xm_netlist.specs.Steps.{◌>>=◌}
-use Rattle.xm_netlist.specs.declared.kinds.Kind.{Kind}
-use Rattle.xm_netlist.specs.declared.kinds.Kind.TheVariants as kinds
+use Rattle.xm_model.specs.Steps.{◌>>=◌}
+use Rattle.xm_shape.specs.Draft.{Part}
+use Rattle.xm_shape.specs.Fault.{Fault}
+use Rattle.xm_shape.specs.Shape.{form_in, text_member}
+use Rattle.xm_shape.specs.Shape as shape
+use Rattle.xm_shape.specs.declared.kinds.Kind.{Kind}
+use Rattle.xm_shape.specs.declared.kinds.Kind.TheVariants as kinds
 
 abbrev pub kind_seen : Kind → shape.Kind
 kind_seen kinds.Source = shape.is_source

@@ -1,10 +1,10 @@
 -- Inner (no public clause cites it): the code's ports, in plain lists.
 use Rattle.std.specs.Prelude.{List, Option, ◌∷◌, ◌++◌, map, option_map}
-use Rattle.xm_netlist.specs.Names.{Name}
+use Rattle.xm_shape.specs.Names.{Name}
 use Rattle.std.specs.Option.{option_to_list}
-use Rattle.xm_netlist.specs.Draft as plain
-use Rattle.xm_netlist.specs.declared.channels.Port.{Port}
-use Rattle.xm_netlist.specs.declared.channels.Ports.{Ports}
+use Rattle.xm_shape.specs.Draft as plain
+use Rattle.xm_shape.specs.declared.channels.Port.{Port}
+use Rattle.xm_shape.specs.declared.channels.Ports.{Ports}
 
 abbrev pub port_seen : Port → plain.Port
 port_seen port = (port.key.now, port.channel.now)

@@ -10,10 +10,10 @@ use Rattle.xm_model.specs.declared.parts.SinkMode.{SinkMode}
 use Rattle.xm_model.specs.declared.parts.SinkMode.TheVariants as sink_mode
 use Rattle.xm_model.specs.declared.parts.SourceMode.{SourceMode}
 use Rattle.xm_model.specs.declared.parts.SourceMode.TheVariants as source_mode
-use Rattle.xm_netlist.specs.Draft.{Allowing, Draft, Form, Part, Table, channel_names, fork, function, join, merge, queue, sink, source, switch}
-use Rattle.xm_netlist.specs.Fault.{Fault, member_of, place_of, shape, unknown_kind}
-use Rattle.xm_netlist.specs.Names.{Name, is_among}
-use Rattle.xm_netlist.specs.Steps.{◌>>=◌, check, demand, each}
+use Rattle.xm_model.specs.Steps.{◌>>=◌, check, demand, each}
+use Rattle.xm_shape.specs.Draft.{Allowing, Draft, Form, Part, Table, channel_names, fork, function, join, merge, queue, sink, source, switch}
+use Rattle.xm_shape.specs.Fault.{Fault, member_of, place_of, shape, unknown_kind}
+use Rattle.xm_shape.specs.Names.{Name, is_among}
 
 abbrev pub list_of : Items → List Data
 list_of no_items = []

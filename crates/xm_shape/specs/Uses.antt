@@ -7,15 +7,15 @@ use Rattle.std.specs.String.{string_eq}
 use Rattle.std.proofs.lemmas.Bool.{not-true}
 use Rattle.std.proofs.lemmas.List.{map_push}
 use Rattle.indexmap.specs.IndexSet.{insert_key}
-use Rattle.xm_netlist.specs.Drafted.{names_seen}
-use Rattle.xm_netlist.specs.Names.{Name, first_uses, is_among}
+use Rattle.xm_shape.specs.Drafted.{names_seen}
+use Rattle.xm_shape.specs.Names.{Name, first_uses, is_among}
 
 pub list_any-map : {X Y : Type 0} (p : Y → Bool) (f : X → Y) (xs : List X) → list_any p (map f xs) ≡ list_any (λ x. p (f x)) xs
 list_any-map p f [] = refl
 list_any-map p f (x ∷ xs) = ap (λ (b : Bool). p (f x) || b) (list_any-map p f xs)
 
-pub cut_at : {X : Type 0} (xs : List X) (i : ℕ) (x : X) → i < length xs → x ≡ get_or xs i x → drop i xs ≡ x ∷ drop (i + 1) xs
-cut_at {X} xs i x lt is = rw add-one (drop-cons xs i x lt ∙ ap (λ (y : X). y ∷ drop (suc i) xs) (sym is))
+pub cut_at : {X : Type 0} (xs : List X) (i : ℕ) (x z : X) → i < length xs → x ≡ get_or xs i z → drop i xs ≡ x ∷ drop (i + 1) xs
+cut_at {X} xs i x z lt is = rw add-one (drop-cons xs i z lt ∙ ap (λ (y : X). y ∷ drop (suc i) xs) (sym is))
 
 map-cond : (b : Bool) (ks : List (String Global)) (k : String Global) → names_seen (cond b ks (ks ++ k ∷ [])) ≡ cond b (names_seen ks) (names_seen ks ++ string_bytes k ∷ [])
 map-cond true ks k = refl

@@ -1,10 +1,10 @@
 //! The ports of a draft's primitives, and the channels that they name.
 
 ghost use Rattle.std.specs.Prelude.{◌≡◌, ◌∷◌, [], IfOk, OnOk, map};
-ghost use Rattle.xm_netlist.specs.Draft as plain;
-ghost use Rattle.xm_netlist.specs.Drafted.{form_seen, names_seen, part_seen};
-ghost use Rattle.xm_netlist.specs.Names.{first_uses};
-ghost use Rattle.xm_netlist.specs.Ported.{channels_seen, port_seen, ports_seen};
+ghost use Rattle.xm_shape.specs.Draft as plain;
+ghost use Rattle.xm_shape.specs.Drafted.{form_seen, names_seen, part_seen};
+ghost use Rattle.xm_shape.specs.Names.{first_uses};
+ghost use Rattle.xm_shape.specs.Ported.{channels_seen, port_seen, ports_seen};
 
 use crate::draft::{Form, Part};
 use indexmap::IndexSet;
@@ -13,14 +13,14 @@ use xm_model::OutOfMemory;
 
 /// A port of a primitive: the member that names it, and its channel.
 #[derive(Clone, Copy)]
-pub(crate) struct Port<'a> {
+pub struct Port<'a> {
     pub key: &'a str,
     pub channel: &'a str,
 }
 
 /// The ports of a primitive, in the order of the table of kinds.
 #[derive(Clone, Copy)]
-pub(crate) struct Ports<'a> {
+pub struct Ports<'a> {
     pub first: Port<'a>,
     pub second: Option<Port<'a>>,
     pub third: Option<Port<'a>>,
@@ -63,7 +63,7 @@ fn three<'a>(first: Port<'a>, second: Port<'a>, third: Port<'a>) -> Ports<'a>
 }
 
 /// The ports of a primitive, each kind's in the order of the table of kinds.
-pub(crate) fn ports_of(form: &Form) -> Ports<'_>
+pub fn ports_of(form: &Form) -> Ports<'_>
     ensures { ports_seen result ≡ plain.ports_of (form_seen form.entry.now) }
 {
     match form {
@@ -117,7 +117,7 @@ fn note_ports(alloc: Global, set: &mut IndexSet<String>, part: &Part) -> Result<
 
 /// The names of channels in the order of their first uses, port by port. Time grows with the number of
 /// ports.
-pub(crate) fn channel_set(alloc: Global, parts: &[Part]) -> Result<IndexSet<String>, OutOfMemory>
+pub fn channel_set(alloc: Global, parts: &[Part]) -> Result<IndexSet<String>, OutOfMemory>
     ensures { IfOk result (λ set. names_seen set.keys ≡ plain.channel_names (map part_seen parts.now)) }
 {
     let mut set = IndexSet::new(alloc);

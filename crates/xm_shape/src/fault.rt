@@ -1,7 +1,7 @@
 //! Why bytes are no document.
 
 ghost use Rattle.std.specs.Prelude.{◌≡◌};
-ghost use Rattle.xm_netlist.specs.declared.fault.DocFault.TheVariants as faults;
+ghost use Rattle.xm_shape.specs.declared.fault.DocFault.TheVariants as faults;
 
 use std::alloc::{AllocError, AllocFailed};
 use xm_model::{Names, Text, WiringFault};

@@ -2,10 +2,10 @@
 
 ghost use Rattle.std.specs.Prelude.{◌≡◌, codes, map, option_map, string_bytes};
 ghost use Rattle.serde_json.specs.View.{view};
-ghost use Rattle.xm_netlist.specs.Drafted.{form_seen, names_seen, part_seen};
-ghost use Rattle.xm_netlist.specs.Gives.{Gives};
-ghost use Rattle.xm_netlist.specs.Kinds.{kind_seen, part_of};
-ghost use Rattle.xm_netlist.specs.Shape as spec;
+ghost use Rattle.xm_shape.specs.Drafted.{form_seen, names_seen, part_seen};
+ghost use Rattle.xm_shape.specs.Gives.{Gives};
+ghost use Rattle.xm_shape.specs.Kinds.{kind_seen, part_of};
+ghost use Rattle.xm_shape.specs.Shape as spec;
 
 use crate::draft::{Form, Part};
 use crate::fault::DocFault;

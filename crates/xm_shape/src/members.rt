@@ -6,11 +6,11 @@ ghost use Rattle.std.specs.List.{list_all, list_any};
 ghost use Rattle.std.specs.Prelude.{◌≡◌, codes, map, string_bytes};
 ghost use Rattle.std.specs.Str.{bytes_eq};
 ghost use Rattle.serde_json.specs.View.{members_view, view};
-ghost use Rattle.xm_netlist.specs.Drafted.{image_seen, names_seen, table_seen};
-ghost use Rattle.xm_netlist.specs.Fault.{member_of, place_of};
-ghost use Rattle.xm_netlist.specs.Gives.{Gives};
-ghost use Rattle.xm_netlist.specs.Shape as spec;
-ghost use Rattle.xm_netlist.specs.Steps.{each};
+ghost use Rattle.xm_model.specs.Steps.{each};
+ghost use Rattle.xm_shape.specs.Drafted.{image_seen, names_seen, table_seen};
+ghost use Rattle.xm_shape.specs.Fault.{member_of, place_of};
+ghost use Rattle.xm_shape.specs.Gives.{Gives};
+ghost use Rattle.xm_shape.specs.Shape as spec;
 
 use crate::draft::Image;
 use crate::fault::DocFault;

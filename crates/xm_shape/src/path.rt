@@ -1,7 +1,7 @@
 //! Paths into a document, as the texts that faults hold.
 
 ghost use Rattle.std.specs.Prelude.{◌≡◌, IfOk};
-ghost use Rattle.xm_netlist.specs.Fault.{member_of, place_of};
+ghost use Rattle.xm_shape.specs.Fault.{member_of, place_of};
 
 use std::alloc::Global;
 use xm_model::{OutOfMemory, Text};

@@ -3,13 +3,13 @@
 ghost use Rattle.std.specs.List.{list_all};
 ghost use Rattle.std.specs.Prelude.{◌≡◌, codes, map, string_bytes};
 ghost use Rattle.serde_json.specs.View.{members_view, view};
-ghost use Rattle.xm_netlist.specs.Drafted.{allowing_seen, draft_seen, names_seen, part_seen};
-ghost use Rattle.xm_netlist.specs.Fault.{member_of, place_of};
-ghost use Rattle.xm_netlist.specs.Gives.{Gives};
-ghost use Rattle.xm_netlist.specs.Names.{is_among};
-ghost use Rattle.xm_netlist.specs.Shape as spec;
-ghost use Rattle.xm_netlist.specs.Steps.{check, each};
-ghost use Rattle.xm_netlist.specs.Fault.{shape};
+ghost use Rattle.xm_model.specs.Steps.{check, each};
+ghost use Rattle.xm_shape.specs.Drafted.{allowing_seen, draft_seen, names_seen, part_seen};
+ghost use Rattle.xm_shape.specs.Fault.{member_of, place_of};
+ghost use Rattle.xm_shape.specs.Gives.{Gives};
+ghost use Rattle.xm_shape.specs.Names.{is_among};
+ghost use Rattle.xm_shape.specs.Shape as spec;
+ghost use Rattle.xm_shape.specs.Fault.{shape};
 
 use crate::channels::channel_set;
 use crate::draft::{Allowing, Draft, Part};

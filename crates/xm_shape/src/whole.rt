@@ -2,8 +2,8 @@
 
 ghost use Rattle.std.specs.Prelude.{◌≡◌, option_map};
 ghost use Rattle.serde_json.specs.View.{items_view, members_view, view};
-ghost use Rattle.xm_netlist.specs.Gives.{Gives};
-ghost use Rattle.xm_netlist.specs.Shape as spec;
+ghost use Rattle.xm_shape.specs.Gives.{Gives};
+ghost use Rattle.xm_shape.specs.Shape as spec;
 
 use crate::fault::DocFault;
 use crate::path::path_text;

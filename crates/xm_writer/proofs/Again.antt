@@ -11,25 +11,25 @@ use Rattle.xm_model.specs.Component.{Component}
 use Rattle.xm_model.specs.Limits.{prim_fits}
 use Rattle.xm_model.specs.Naming.{Naming}
 use Rattle.xm_model.specs.Net.{inputs, outputs}
+use Rattle.xm_model.specs.Steps.{each, each_from}
+use Rattle.xm_shape.specs.Draft.{Allowing, Draft, Part, channel_names}
+use Rattle.xm_shape.specs.Fault.{member_of, place_of}
+use Rattle.xm_shape.specs.Names.{Name, is_among}
+use Rattle.xm_shape.specs.Shape.{allow_in, are_channels, colours_in, draft_in, entries_in, net, only, part_at, parts_in, version_in, whole_member, whole_or_missing}
 use Rattle.xm_netlist.specs.Doc.{Doc}
-use Rattle.xm_netlist.specs.Draft.{Allowing, Draft, Part, channel_names}
-use Rattle.xm_netlist.specs.Fault.{member_of, place_of}
-use Rattle.xm_netlist.specs.Names.{Name, is_among}
+use Rattle.xm_netlist.specs.FirstFault.{is_wired}
 use Rattle.xm_netlist.specs.Numbered.{allow_of, naming_in, net_of}
 use Rattle.xm_netlist.specs.Reading.{document_of, numbered}
-use Rattle.xm_netlist.specs.Shape.{allow_in, are_channels, colours_in, draft_in, entries_in, net, only, part_at, parts_in, version_in, whole_member, whole_or_missing}
-use Rattle.xm_netlist.specs.Steps.{each, each_from}
 use Rattle.xm_netlist.specs.Valid.{IsPart, IsValid}
-use Rattle.xm_netlist.specs.Writing.{data_of, has_packets, is_fair, member_if, name_at, object_if, prims_data, version_of}
-use Rattle.xm_netlist.proofs.AgainAllow.{allowing_of, entries_again, entries_written, entry_table, entry_table-all, entry_within, texts_data}
-use Rattle.xm_netlist.proofs.AgainLists.{any_at, by_places, every_at}
-use Rattle.xm_netlist.proofs.AgainMaps.{members_from}
-use Rattle.xm_netlist.proofs.AgainMarks.{rising_within}
-use Rattle.xm_netlist.proofs.AgainNames.{is_known}
-use Rattle.xm_netlist.proofs.AgainNumbers.{Fits, channels_again, components_again, parts_of, prims_again}
-use Rattle.xm_netlist.proofs.AgainParts.{Suits, list_of-items_of, part_again, texts_again}
-use Rattle.xm_netlist.proofs.FirstFault.{is_wired}
-use Rattle.xm_netlist.proofs.AgainTests.{AreKnown, coloured_again, known_names, limited_again, named_again}
+use Rattle.xm_writer.specs.Writing.{data_of, has_packets, is_fair, member_if, name_at, object_if, prims_data, version_of}
+use Rattle.xm_writer.proofs.AgainAllow.{allowing_of, entries_again, entries_written, entry_table, entry_table-all, entry_within, texts_data}
+use Rattle.xm_writer.proofs.AgainLists.{any_at, by_places, every_at}
+use Rattle.xm_writer.proofs.AgainMaps.{members_from}
+use Rattle.xm_writer.proofs.AgainMarks.{rising_within}
+use Rattle.xm_writer.proofs.AgainNames.{is_known}
+use Rattle.xm_writer.proofs.AgainNumbers.{Fits, channels_again, components_again, parts_of, prims_again}
+use Rattle.xm_writer.proofs.AgainParts.{Suits, list_of-items_of, part_again, texts_again}
+use Rattle.xm_writer.proofs.AgainTests.{AreKnown, coloured_again, known_names, limited_again, named_again}
 
 -- ---- the members of the root
 

@@ -10,16 +10,16 @@ use Rattle.serde_json.specs.Data.{Data, array, no_members, put, string}
 use Rattle.serde_json.specs.View.{items_of}
 use Rattle.xm_model.specs.Naming.{Allowed, Naming}
 use Rattle.xm_model.specs.Net.{Network}
-use Rattle.xm_netlist.specs.Draft.{Allowing}
-use Rattle.xm_netlist.specs.Names.{Name, number_in}
+use Rattle.xm_shape.specs.Draft.{Allowing}
+use Rattle.xm_shape.specs.Names.{Name, number_in}
+use Rattle.xm_netlist.specs.Lengths.{length-set_each}
 use Rattle.xm_netlist.specs.Numbered.{entries_from, listed_in, set_each, slots_of}
 use Rattle.xm_netlist.specs.Valid.{AllowsWithin, RisesWithin, are_distinct}
-use Rattle.xm_netlist.specs.Writing.{entries_data, name_at, names_data}
-use Rattle.xm_netlist.proofs.Limited.{length-set_each}
-use Rattle.xm_netlist.proofs.AgainLists.{at_recursion, get-replicate, set_each_at}
-use Rattle.xm_netlist.proofs.AgainMaps.{entered, entered-all, entered-has, entered-kept, members_from, put-entered}
-use Rattle.xm_netlist.proofs.AgainMarks.{listed_again}
-use Rattle.xm_netlist.proofs.AgainNames.{number_again}
+use Rattle.xm_writer.specs.Writing.{entries_data, name_at, names_data}
+use Rattle.xm_writer.proofs.AgainLists.{at_recursion, get-replicate, set_each_at}
+use Rattle.xm_writer.proofs.AgainMaps.{entered, entered-all, entered-has, entered-kept, members_from, put-entered}
+use Rattle.xm_writer.proofs.AgainMarks.{listed_again}
+use Rattle.xm_writer.proofs.AgainNames.{number_again}
 
 abbrev pub texts_data : List Name → Data
 texts_data names = array (items_of (map string names))

@@ -7,10 +7,11 @@ use Rattle.std.proofs.lemmas.Bool.{and_parts, cases_eq, ne_eqb, or_parts}
 use Rattle.std.proofs.lemmas.List.{length-set, get_or-set_same, get_or-set_other}
 use Rattle.std.proofs.lemmas.List.Elements.{All-cons, All-nil}
 use Rattle.std.proofs.lemmas.Option.{get_or_from_slice_get, slice_get-get_or, slice_get_within}
-use Rattle.xm_netlist.specs.Fault.{Fault}
+use Rattle.xm_model.specs.Steps.{each_from}
+use Rattle.xm_shape.specs.Fault.{Fault}
+use Rattle.xm_shape.specs.Holding.{each_holds_from}
+use Rattle.xm_netlist.specs.Lengths.{length-numbers_below}
 use Rattle.xm_netlist.specs.Numbered.{numbers_below, set_each}
-use Rattle.xm_netlist.specs.Steps.{each_from, each_holds_from}
-use Rattle.xm_netlist.proofs.Limited.{length-numbers_below}
 
 -- each item passes its test
 pub holds : {A : Type 0} (f : ℕ → A → Result ⊤ Fault) (i : ℕ) (xs : List A) → ((j k : ℕ) (x : A) → j ≡ i + k → slice_get xs k ≡ Some x → f j x ≡ Ok tt) → each_holds_from f i xs ≡ Ok tt

@@ -6,13 +6,13 @@ use Rattle.std.proofs.lemmas.Bool.{cases_eq, eq-eqb, ne_eqb, or_from}
 use Rattle.std.proofs.lemmas.List.{length-replicate}
 use Rattle.std.proofs.lemmas.List.Elements.{All-cons, All-head, All-nil, All-tail}
 use Rattle.std.proofs.lemmas.Option.{slice_get_within}
-use Rattle.xm_netlist.specs.Names.{Name, number_in}
+use Rattle.xm_shape.specs.Names.{Name, number_in}
+use Rattle.xm_netlist.specs.Lengths.{length-marks_of}
 use Rattle.xm_netlist.specs.Numbered.{listed_in, marked_from, marks_of}
 use Rattle.xm_netlist.specs.Valid.{RisesWithin, are_distinct}
-use Rattle.xm_netlist.specs.Writing.{name_at}
-use Rattle.xm_netlist.proofs.Limited.{length-marks_of}
-use Rattle.xm_netlist.proofs.AgainLists.{any_at, get-replicate, same_by_items, set_each_at}
-use Rattle.xm_netlist.proofs.AgainNames.{number_again}
+use Rattle.xm_writer.specs.Writing.{name_at}
+use Rattle.xm_writer.proofs.AgainLists.{any_at, get-replicate, same_by_items, set_each_at}
+use Rattle.xm_writer.proofs.AgainNames.{number_again}
 
 turned : (a b : ℕ) → nat_eq a b ≡ nat_eq b a
 turned a b = elim (cases_eq a b) [ inl same ↦ rw same refl | inr other ↦ ne_eqb a b other ∙ sym (ne_eqb b a (λ e. other (sym e))) ]

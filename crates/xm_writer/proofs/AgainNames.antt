@@ -9,20 +9,12 @@ use Rattle.std.proofs.lemmas.List.{map_push, take_all}
 use Rattle.std.proofs.lemmas.List.Elements.{All-head, All-push, All-tail}
 use Rattle.std.proofs.lemmas.Option.{slice_get-get_or}
 use Rattle.std.proofs.lemmas.Slice.Eq.{bytes_eq-Decides}
-use Rattle.xm_netlist.specs.Names.{Name, first_uses, is_among, number_in}
+use Rattle.xm_shape.specs.Equal.{same_bytes, same_names, swapped}
+use Rattle.xm_shape.specs.Names.{Name, first_uses, is_among, number_in}
 use Rattle.xm_netlist.specs.Numbered.{numbers_below}
 use Rattle.xm_netlist.specs.Valid.{are_distinct, differ, first_numbers}
-use Rattle.xm_netlist.specs.Writing.{name_at}
-use Rattle.xm_netlist.proofs.AgainLists.{any_at, none_at}
-
-pub same_bytes : (a : Name) → bytes_eq a a ≡ true
-same_bytes a = (bytes_eq-Decides a a).1 refl
-
-pub same_names : (a b : Name) → bytes_eq a b ≡ true → a ≡ b
-same_names a b e = (bytes_eq-Decides a b).0 e
-
-swapped : (a b : Name) → bytes_eq a b ≡ false → bytes_eq b a ≡ false
-swapped a b e = false_from_ne_true (bytes_eq b a) (λ t. let same : b ≡ a = same_names b a t in true≢false (sym (same_bytes a) ∙ (rw same at e)))
+use Rattle.xm_writer.specs.Writing.{name_at}
+use Rattle.xm_writer.proofs.AgainLists.{any_at, none_at}
 
 -- a name that stands at a later place is another
 apart : (n : Name) (ns : List Name) (i : ℕ) (x : Name) → are_distinct (n ∷ ns) ≡ true → slice_get ns i ≡ Some x → bytes_eq x n ≡ false

@@ -8,16 +8,16 @@ use Rattle.std.proofs.lemmas.List.Sums.{sum_by-cons}
 use Rattle.xm_model.specs.Component.{Component, Fork, Function, Join, Merge, Queue, Sink, Source, Switch}
 use Rattle.xm_model.specs.Naming.{Naming}
 use Rattle.xm_model.specs.Net.{FitsComponent, capacity_of}
-use Rattle.xm_netlist.specs.Draft.{Part, channel_names, channels_of}
-use Rattle.xm_netlist.specs.Names.{Name, first_uses, number_in}
+use Rattle.xm_shape.specs.Draft.{Part, channel_names, channels_of}
+use Rattle.xm_shape.specs.Names.{Name, first_uses, number_in}
 use Rattle.xm_netlist.specs.Numbered.{component_in, numbers_below, part_numbered}
 use Rattle.xm_netlist.specs.Tests.{capacity_in, name_of}
 use Rattle.xm_netlist.specs.Valid.{DiffersIn, are_distinct, channel_uses, first_numbers}
-use Rattle.xm_netlist.specs.Writing.{name_at}
-use Rattle.xm_netlist.proofs.AgainMaps.{images_again}
-use Rattle.xm_netlist.proofs.AgainMarks.{marks_again}
-use Rattle.xm_netlist.proofs.AgainNames.{all_names, first_uses-map, number_again}
-use Rattle.xm_netlist.proofs.AgainParts.{form_of, named_by, part_of}
+use Rattle.xm_writer.specs.Writing.{name_at}
+use Rattle.xm_writer.proofs.AgainMaps.{images_again}
+use Rattle.xm_writer.proofs.AgainMarks.{marks_again}
+use Rattle.xm_writer.proofs.AgainNames.{all_names, first_uses-map, number_again}
+use Rattle.xm_writer.proofs.AgainParts.{form_of, named_by, part_of}
 
 -- the primitives from number p on, by their names
 abbrev pub parts_of : Naming → ℕ → List Component → List Part

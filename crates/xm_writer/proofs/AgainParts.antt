@@ -10,15 +10,15 @@ use Rattle.xm_model.specs.declared.parts.Side.TheVariants.{A, B}
 use Rattle.xm_model.specs.declared.parts.SinkMode.TheVariants as sink_mode
 use Rattle.xm_model.specs.declared.parts.SourceMode.{SourceMode}
 use Rattle.xm_model.specs.declared.parts.SourceMode.TheVariants as source_mode
-use Rattle.xm_netlist.specs.Draft.{Form, Part, Table, fork, function, join, merge, queue, sink, source, switch}
-use Rattle.xm_netlist.specs.Fault.{member_of, place_of}
-use Rattle.xm_netlist.specs.Names.{Name}
+use Rattle.xm_shape.specs.Draft.{Form, Part, Table, fork, function, join, merge, queue, sink, source, switch}
+use Rattle.xm_shape.specs.Fault.{member_of, place_of}
+use Rattle.xm_shape.specs.Names.{Name}
+use Rattle.xm_shape.specs.Shape.{fork_in, function_in, images_in, initial_member, join_in, list_of, merge_in, number_member, only, part_at, pass_member, queue_in, sink_in, sink_mode_member, source_in, source_mode_member, switch_in, table_at, table_member, text_at, text_member, texts_at, texts_member}
 use Rattle.xm_netlist.specs.Numbered.{marked_from}
-use Rattle.xm_netlist.specs.Shape.{fork_in, function_in, images_in, initial_member, join_in, list_of, merge_in, number_member, only, part_at, pass_member, queue_in, sink_in, sink_mode_member, source_in, source_mode_member, switch_in, table_at, table_member, text_at, text_member, texts_at, texts_member}
-use Rattle.xm_netlist.specs.Writing.{component_data, has_packets, is_fair, member_if, name_at, names_data, object_if}
-use Rattle.xm_netlist.proofs.AgainAllow.{names_data-texts, texts_data}
-use Rattle.xm_netlist.proofs.AgainLists.{reads}
-use Rattle.xm_netlist.proofs.AgainMaps.{changes-table, members_from, table_of}
+use Rattle.xm_writer.specs.Writing.{component_data, has_packets, is_fair, member_if, name_at, names_data, object_if}
+use Rattle.xm_writer.proofs.AgainAllow.{names_data-texts, texts_data}
+use Rattle.xm_writer.proofs.AgainLists.{reads}
+use Rattle.xm_writer.proofs.AgainMaps.{changes-table, members_from, table_of}
 
 pub list_of-items_of : (ds : List Data) → list_of (items_of ds) ≡ ds
 list_of-items_of [] = refl

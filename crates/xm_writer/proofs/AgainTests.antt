@@ -9,21 +9,21 @@ use Rattle.std.proofs.lemmas.Option.{slice_get-map}
 use Rattle.xm_model.specs.Component.{Component, Fork, Function, Join, Merge, Queue, Sink, Source, Switch}
 use Rattle.xm_model.specs.Naming.{Naming}
 use Rattle.xm_model.specs.Net.{capacity_of}
-use Rattle.xm_netlist.specs.Draft.{Allowing, Form, Part, Table, channel_names, ports_of}
-use Rattle.xm_netlist.specs.Fault.{Fault, place_of}
-use Rattle.xm_netlist.specs.Names.{Name, is_among, is_colour_name, is_name}
-use Rattle.xm_netlist.specs.Shape.{net}
-use Rattle.xm_netlist.specs.Steps.{each_holds, each_holds_from}
+use Rattle.xm_shape.specs.Draft.{Allowing, Form, Part, Table, channel_names, ports_of}
+use Rattle.xm_shape.specs.Fault.{Fault, place_of}
+use Rattle.xm_shape.specs.Holding.{each_holds, each_holds_from}
+use Rattle.xm_shape.specs.Names.{Name, is_among, is_colour_name, is_name}
+use Rattle.xm_shape.specs.Shape.{net}
 use Rattle.xm_netlist.specs.Tests.{all_known, colour_named, coloured, entry_coloured, form_coloured, limited, name_of, named, offers_sized, packets_sized, part_coloured, part_named, ports_named, room_sized, table_known}
 use Rattle.xm_netlist.specs.Valid.{AreNames, are_distinct}
-use Rattle.xm_netlist.specs.Writing.{name_at}
-use Rattle.xm_netlist.proofs.AgainAllow.{allowing_of}
-use Rattle.xm_netlist.proofs.AgainLists.{all_at, every_at, holds}
-use Rattle.xm_netlist.proofs.AgainMaps.{table_names}
-use Rattle.xm_netlist.proofs.AgainMarks.{marked_within}
-use Rattle.xm_netlist.proofs.AgainNames.{distinct-map, distinct_before, is_known, name_is}
-use Rattle.xm_netlist.proofs.AgainNumbers.{Fits, capacities_again, each_part, length-parts_of, parts_of, prims_again}
-use Rattle.xm_netlist.proofs.AgainParts.{named_by, part_of}
+use Rattle.xm_writer.specs.Writing.{name_at}
+use Rattle.xm_writer.proofs.AgainAllow.{allowing_of}
+use Rattle.xm_writer.proofs.AgainLists.{all_at, every_at, holds}
+use Rattle.xm_writer.proofs.AgainMaps.{table_names}
+use Rattle.xm_writer.proofs.AgainMarks.{marked_within}
+use Rattle.xm_writer.proofs.AgainNames.{distinct-map, distinct_before, is_known, name_is}
+use Rattle.xm_writer.proofs.AgainNumbers.{Fits, capacities_again, each_part, length-parts_of, parts_of, prims_again}
+use Rattle.xm_writer.proofs.AgainParts.{named_by, part_of}
 
 -- ---- names
 

@@ -6,10 +6,10 @@ use Rattle.xm_model.specs.Component.{Component, Fork, Function, Join, Merge, Que
 use Rattle.xm_model.specs.Naming.{Naming}
 use Rattle.xm_model.specs.declared.parts.SinkMode.TheVariants as sink_mode
 use Rattle.xm_model.specs.declared.parts.SourceMode.TheVariants as source_mode
+use Rattle.xm_shape.specs.Names.{Name}
 use Rattle.xm_netlist.specs.Doc.{Doc}
-use Rattle.xm_netlist.specs.Names.{Name}
-use Rattle.xm_netlist.specs.Spelling.{kind_name, ports_put, put_if, rest_put}
-use Rattle.xm_netlist.specs.Writing.{allow_data, component_data, data_of, member_if, name_data, prims_data, table_data, version_of}
+use Rattle.xm_writer.specs.Spelling.{kind_name, ports_put, put_if, rest_put}
+use Rattle.xm_writer.specs.Writing.{allow_data, component_data, data_of, member_if, name_data, prims_data, table_data, version_of}
 
 function_in_order : (input out name : Data) (table : Option Data)
     → put_if (codes "map") table (put (codes "out") out (put (codes "in") input (put (codes "kind") (string (codes "function")) (put (codes "name") name no_members))))

@@ -13,18 +13,16 @@ use Rattle.xm_model.specs.Component.{component_of}
 use Rattle.xm_model.specs.Naming.{Naming, allowed_of}
 use Rattle.xm_model.specs.declared.parts.Allow.{Allow}
 use Rattle.xm_model.specs.declared.parts.Primitive.{Primitive}
-use Rattle.xm_netlist.specs.Names.{Name}
+use Rattle.xm_shape.specs.Names.{Name}
+use Rattle.xm_shape.specs.Uses.{cut_at}
 use Rattle.xm_netlist.specs.Numbered.{marked_from}
-use Rattle.xm_netlist.specs.Spelling.{AreTexts}
-use Rattle.xm_netlist.specs.Writing.{changes, component_data, entries_data, name_at, name_data, names_data, object_if, prims_data}
+use Rattle.xm_writer.specs.Spelling.{AreTexts}
+use Rattle.xm_writer.specs.Writing.{changes, component_data, entries_data, name_at, name_data, names_data, object_if, prims_data}
 
 pub name_is_text : (names : List Name) → AreTexts names → (i : ℕ) → IsUtf8 (name_at names i)
 name_is_text [] all i = IsUtf8-nil
 name_is_text (n ∷ ns) all zero = All-head IsUtf8 n ns all
 name_is_text (n ∷ ns) all (suc i) = name_is_text ns (All-tail IsUtf8 n ns all) i
-
-pub cut_at : {X : Type 0} (xs : List X) (i : ℕ) (x z : X) → i < length xs → x ≡ get_or xs i z → drop i xs ≡ x ∷ drop (i + 1) xs
-cut_at {X} xs i x z lt is = rw add-one (drop-cons xs i z lt ∙ ap (λ (y : X). y ∷ drop (suc i) xs) (sym is))
 
 pub view-String : (s : String Global) → view (text_value s) ≡ string (string_bytes s)
 view-String s = search (rules, the_lemmas)

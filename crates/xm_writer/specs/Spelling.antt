@@ -5,9 +5,9 @@ use Rattle.std.specs.Str.{IsUtf8}
 use Rattle.serde_json.specs.Data.{Data, Members, number, put, unsigned}
 use Rattle.xm_model.specs.Component.{Component, Fork, Function, Join, Merge, Queue, Sink, Source, Switch}
 use Rattle.xm_model.specs.Naming.{Naming}
-use Rattle.xm_netlist.specs.Names.{Name}
+use Rattle.xm_shape.specs.Names.{Name}
 use Rattle.xm_netlist.specs.Numbered.{marked_from}
-use Rattle.xm_netlist.specs.Writing.{initial_data, name_data, names_data, side_data, sink_mode_data, source_mode_data, table_data}
+use Rattle.xm_writer.specs.Writing.{initial_data, name_data, names_data, side_data, sink_mode_data, source_mode_data, table_data}
 
 -- each name is text
 abbrev pub AreTexts : List Name → Type 0

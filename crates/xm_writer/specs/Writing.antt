@@ -12,8 +12,8 @@ use Rattle.xm_model.specs.declared.parts.SinkMode.{SinkMode}
 use Rattle.xm_model.specs.declared.parts.SinkMode.TheVariants as sink_mode
 use Rattle.xm_model.specs.declared.parts.SourceMode.{SourceMode}
 use Rattle.xm_model.specs.declared.parts.SourceMode.TheVariants as source_mode
+use Rattle.xm_shape.specs.Names.{Name}
 use Rattle.xm_netlist.specs.Doc.{Doc}
-use Rattle.xm_netlist.specs.Names.{Name}
 use Rattle.xm_netlist.specs.Numbered.{marked_from}
 
 -- the name with this number

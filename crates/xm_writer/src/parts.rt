@@ -6,9 +6,9 @@ ghost use Rattle.serde_json.specs.View.{members_view, view};
 ghost use Rattle.xm_model.specs.Component.{component_of};
 ghost use Rattle.xm_model.specs.Naming.{naming_of};
 ghost use Rattle.xm_netlist.specs.Numbered.{marked_from};
-ghost use Rattle.xm_netlist.specs.Spelling.{HasTexts, fan_put, meet_put, ports_put, put_if, rest_put, row_put};
-ghost use Rattle.xm_netlist.specs.Spelling as spelling;
-ghost use Rattle.xm_netlist.specs.Writing as spec;
+ghost use Rattle.xm_writer.specs.Spelling.{HasTexts, fan_put, meet_put, ports_put, put_if, rest_put, row_put};
+ghost use Rattle.xm_writer.specs.Spelling as spelling;
+ghost use Rattle.xm_writer.specs.Writing as spec;
 
 use crate::spelling::{marked_value, put, put_name, put_names, put_some, put_text, table_value};
 use serde_json::{Map, Value};

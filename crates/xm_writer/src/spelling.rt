@@ -4,9 +4,9 @@ ghost use Rattle.std.specs.Prelude.{◌≡◌, IfOk, OnOk, option_map, string_by
 ghost use Rattle.serde_json.specs.Data.{no_members, put as put_member, string};
 ghost use Rattle.serde_json.specs.View.{members_view, view};
 ghost use Rattle.xm_model.specs.Naming.{texts_of};
-ghost use Rattle.xm_netlist.specs.Spelling.{AreTexts, put_if};
 ghost use Rattle.xm_netlist.specs.Numbered.{marked_from};
-ghost use Rattle.xm_netlist.specs.Writing as spec;
+ghost use Rattle.xm_writer.specs.Spelling.{AreTexts, put_if};
+ghost use Rattle.xm_writer.specs.Writing as spec;
 
 use serde_json::{Map, Value};
 use std::alloc::Global;

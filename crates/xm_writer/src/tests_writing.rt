@@ -2,6 +2,7 @@ use super::*;
 use std::alloc::Global;
 use std::test::*;
 use xm_model::Text;
+use xm_netlist::read_document;
 
 const STREAM: &str =
     "{\"colours\":[\"req\"],\"net\":[{\"colours\":[\"req\"],\"kind\":\"source\",\"name\":\"S\",\"out\":\"c0\"},{\"capacity\":1,\"in\":\"c0\",\"kind\":\"queue\",\"name\":\"Q\",\"out\":\"c1\"},{\"in\":\"c1\",\"kind\":\"sink\",\"name\":\"K\"}],\"version\":1}\n";

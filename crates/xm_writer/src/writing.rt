@@ -6,18 +6,18 @@ ghost use Rattle.serde_json.specs.Data.{array, no_members, put as put_member, st
 ghost use Rattle.serde_json.specs.View.{items_of, members_view, view};
 ghost use Rattle.xm_model.specs.Component.{component_of};
 ghost use Rattle.xm_model.specs.Naming.{allowed_of, naming_of, texts_of};
-ghost use Rattle.xm_netlist.specs.Drafted.{doc_of};
+ghost use Rattle.xm_netlist.specs.Documented.{doc_of};
 ghost use Rattle.xm_netlist.specs.Reading.{document_in};
-ghost use Rattle.xm_netlist.specs.Spelling.{AreTexts, HasTexts};
 ghost use Rattle.xm_netlist.specs.Valid.{IsValid};
-ghost use Rattle.xm_netlist.specs.Writing as spec;
+ghost use Rattle.xm_writer.specs.Spelling.{AreTexts, HasTexts};
+ghost use Rattle.xm_writer.specs.Writing as spec;
 
-use crate::document::Document;
 use crate::parts::part_value;
 use crate::spelling::{name_text, names_value, object_if, put, put_at_name, put_some};
 use serde_json::{Map, Value};
 use std::alloc::Global;
 use xm_model::{Allow, Names, OutOfMemory, Prim, SourceMode, Text};
+use xm_netlist::Document;
 
 /// All names.
 fn all_names_value(alloc: Global, names: &[Text]) -> Result<Value, OutOfMemory>

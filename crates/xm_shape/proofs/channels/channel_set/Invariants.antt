@@ -1,9 +1,9 @@
 use Rattle.std.proofs.Common.{◌≡◌, drop, map}
 use Rattle.std.specs.List.{flat_map}
-use Rattle.xm_netlist.specs.Draft.{channel_names, channels_of}
-use Rattle.xm_netlist.specs.Drafted.{names_seen, part_seen}
-use Rattle.xm_netlist.specs.Names.{first_uses}
-use Rattle.xm_netlist.proofs.channels.channel_set.Given as goal
+use Rattle.xm_shape.specs.Draft.{channel_names, channels_of}
+use Rattle.xm_shape.specs.Drafted.{names_seen, part_seen}
+use Rattle.xm_shape.specs.Names.{first_uses}
+use Rattle.xm_shape.proofs.channels.channel_set.Given as goal
 
 abbrev pub invariant-loop-part : goal.invariant-loop-part
 invariant-loop-part l =

@@ -1,5 +1,5 @@
-use Rattle.xm_netlist.proofs.Uses.{noted}
-use Rattle.xm_netlist.proofs.channels.note.Goals as goal
+use Rattle.xm_shape.specs.Uses.{noted}
+use Rattle.xm_shape.proofs.channels.note.Goals as goal
 
 pub returns : goal.returns
 returns c =

@@ -1,8 +1,8 @@
 use Rattle.std.proofs.Common.{refl}
 use Rattle.std.proofs.lemmas.Result.{err_from_is_err_and}
-use Rattle.xm_netlist.specs.Shape.{fork_in}
-use Rattle.xm_netlist.proofs.Walk.{Fails-bind}
-use Rattle.xm_netlist.proofs.kinds.fork.Goals as goal
+use Rattle.xm_shape.specs.Failing.{Fails-bind}
+use Rattle.xm_shape.specs.Shape.{fork_in}
+use Rattle.xm_shape.proofs.kinds.fork.Goals as goal
 
 pub returns-in_err-only : goal.returns-in_err-only
 unfolding fork_in

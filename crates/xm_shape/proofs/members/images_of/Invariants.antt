@@ -1,9 +1,9 @@
 use Rattle.std.proofs.Common.{◌≡◌}
 use Rattle.serde_json.specs.View.{members_view}
-use Rattle.xm_netlist.specs.Drafted.{table_seen}
-use Rattle.xm_netlist.specs.Shape.{images_in}
-use Rattle.xm_netlist.proofs.Walk.{with_front}
-use Rattle.xm_netlist.proofs.members.images_of.Given as goal
+use Rattle.xm_shape.specs.Drafted.{table_seen}
+use Rattle.xm_shape.specs.Shape.{images_in}
+use Rattle.xm_shape.proofs.Walk.{with_front}
+use Rattle.xm_shape.proofs.members.images_of.Given as goal
 
 abbrev pub invariant-loop-key : goal.invariant-loop-key
 invariant-loop-key l =

@@ -1,11 +1,11 @@
 use Rattle.std.proofs.Common.{◌≡◌, ◌++◌, ◌∷◌, [], string_bytes}
 use Rattle.std.proofs.lemmas.List.{map_push}
 use Rattle.serde_json.specs.View.{view}
-use Rattle.xm_netlist.specs.Drafted.{names_seen}
-use Rattle.xm_netlist.specs.Fault.{place_of}
-use Rattle.xm_netlist.specs.Shape.{text_at}
-use Rattle.xm_netlist.proofs.Walk.{goes_on}
-use Rattle.xm_netlist.proofs.members.texts_of.Goals as goal
+use Rattle.xm_shape.specs.Drafted.{names_seen}
+use Rattle.xm_shape.specs.Fault.{place_of}
+use Rattle.xm_shape.specs.Shape.{text_at}
+use Rattle.xm_shape.proofs.Walk.{goes_on}
+use Rattle.xm_shape.proofs.members.texts_of.Goals as goal
 
 pub loop-i-preserved : goal.loop-i-preserved
 loop-i-preserved c =

@@ -1,11 +1,11 @@
 use Rattle.std.proofs.Common.{◌≡◌, map, drop}
 use Rattle.serde_json.specs.View.{view}
-use Rattle.xm_netlist.specs.Drafted.{names_seen}
-use Rattle.xm_netlist.specs.Fault.{place_of}
-use Rattle.xm_netlist.specs.Shape.{text_at}
-use Rattle.xm_netlist.specs.Steps.{each_from}
-use Rattle.xm_netlist.proofs.Walk.{with_front}
-use Rattle.xm_netlist.proofs.members.texts_of.Given as goal
+use Rattle.xm_model.specs.Steps.{each_from}
+use Rattle.xm_shape.specs.Drafted.{names_seen}
+use Rattle.xm_shape.specs.Fault.{place_of}
+use Rattle.xm_shape.specs.Shape.{text_at}
+use Rattle.xm_shape.proofs.Walk.{with_front}
+use Rattle.xm_shape.proofs.members.texts_of.Given as goal
 
 abbrev pub invariant-loop-i : goal.invariant-loop-i
 invariant-loop-i l =

@@ -4,13 +4,13 @@ use Rattle.std.proofs.lemmas.Result.{err_from_is_err_and}
 use Rattle.serde_json.specs.Data.{Data}
 use Rattle.serde_json.specs.Find.{as_object}
 use Rattle.serde_json.specs.View.{view}
-use Rattle.xm_netlist.specs.Draft.{Allowing, Draft}
-use Rattle.xm_netlist.specs.Fault.{Fault, place_of, shape}
-use Rattle.xm_netlist.specs.Names.{Name}
-use Rattle.xm_netlist.specs.Shape.{allow_in, are_channels, colours_in, draft_in, net, only, part_at, parts_in, root_members, version_in, whole_member}
-use Rattle.xm_netlist.specs.Steps.{◌>>=◌, check, demand, each}
-use Rattle.xm_netlist.proofs.Walk.{Fails-bind}
-use Rattle.xm_netlist.proofs.shape.draft_of.Goals as goal
+use Rattle.xm_model.specs.Steps.{◌>>=◌, check, demand, each}
+use Rattle.xm_shape.specs.Draft.{Allowing, Draft}
+use Rattle.xm_shape.specs.Failing.{Fails-bind}
+use Rattle.xm_shape.specs.Fault.{Fault, place_of, shape}
+use Rattle.xm_shape.specs.Names.{Name}
+use Rattle.xm_shape.specs.Shape.{allow_in, are_channels, colours_in, draft_in, net, only, part_at, parts_in, root_members, version_in, whole_member}
+use Rattle.xm_shape.proofs.shape.draft_of.Goals as goal
 
 demanded : {A B : Type 0} (o : Option A) (e : Fault) (step : Result B Fault) → is_some o ≡ true → (demand o e >>= λ _. step) ≡ step
 demanded None e step some = absurd cc

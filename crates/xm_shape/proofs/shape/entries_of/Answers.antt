@@ -1,13 +1,13 @@
 use Rattle.std.proofs.Common.{◌≡◌, ◌∷◌, [], ◌++◌, ◌∙◌, List, Result, Ok, sym, codes}
 use Rattle.std.proofs.lemmas.List.{map_push}
 use Rattle.serde_json.specs.Data.{Data, Members, member}
-use Rattle.xm_netlist.specs.Draft.{Allowing}
-use Rattle.xm_netlist.specs.Drafted.{allowing_seen}
-use Rattle.xm_netlist.specs.Fault.{Fault, member_of}
-use Rattle.xm_netlist.specs.Names.{Name}
-use Rattle.xm_netlist.specs.Shape.{entries_in, texts_at}
-use Rattle.xm_netlist.proofs.Walk.{regroup, with_front}
-use Rattle.xm_netlist.proofs.shape.entries_of.Goals as goal
+use Rattle.xm_shape.specs.Draft.{Allowing}
+use Rattle.xm_shape.specs.Drafted.{allowing_seen}
+use Rattle.xm_shape.specs.Fault.{Fault, member_of}
+use Rattle.xm_shape.specs.Names.{Name}
+use Rattle.xm_shape.specs.Shape.{entries_in, texts_at}
+use Rattle.xm_shape.proofs.Walk.{regroup, with_front}
+use Rattle.xm_shape.proofs.shape.entries_of.Goals as goal
 
 -- the entry of channel k was read
 next_entry : (front : List Allowing) (k : Name) (d : Data) (ms : Members) (colours : List Name) (total : Result (List Allowing) Fault) → texts_at (member_of (codes "allow") k) d ≡ Ok colours

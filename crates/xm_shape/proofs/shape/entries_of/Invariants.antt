@@ -1,9 +1,9 @@
 use Rattle.std.proofs.Common.{◌≡◌, map}
 use Rattle.serde_json.specs.View.{members_view}
-use Rattle.xm_netlist.specs.Drafted.{allowing_seen}
-use Rattle.xm_netlist.specs.Shape.{entries_in}
-use Rattle.xm_netlist.proofs.Walk.{with_front}
-use Rattle.xm_netlist.proofs.shape.entries_of.Given as goal
+use Rattle.xm_shape.specs.Drafted.{allowing_seen}
+use Rattle.xm_shape.specs.Shape.{entries_in}
+use Rattle.xm_shape.proofs.Walk.{with_front}
+use Rattle.xm_shape.proofs.shape.entries_of.Given as goal
 
 abbrev pub invariant-loop-key : goal.invariant-loop-key
 invariant-loop-key l =

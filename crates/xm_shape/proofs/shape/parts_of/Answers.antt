@@ -1,11 +1,11 @@
 use Rattle.std.proofs.Common.{◌≡◌, ◌++◌, ◌∷◌, [], map}
 use Rattle.std.proofs.lemmas.List.{map_push}
 use Rattle.serde_json.specs.View.{view}
-use Rattle.xm_netlist.specs.Drafted.{part_seen}
-use Rattle.xm_netlist.specs.Fault.{place_of}
-use Rattle.xm_netlist.specs.Shape.{net, part_at}
-use Rattle.xm_netlist.proofs.Walk.{goes_on}
-use Rattle.xm_netlist.proofs.shape.parts_of.Goals as goal
+use Rattle.xm_shape.specs.Drafted.{part_seen}
+use Rattle.xm_shape.specs.Fault.{place_of}
+use Rattle.xm_shape.specs.Shape.{net, part_at}
+use Rattle.xm_shape.proofs.Walk.{goes_on}
+use Rattle.xm_shape.proofs.shape.parts_of.Goals as goal
 
 pub loop-i-preserved : goal.loop-i-preserved
 loop-i-preserved c =

@@ -1,7 +1,7 @@
 use Rattle.std.proofs.Common.{◌≡◌, drop}
 use Rattle.serde_json.specs.View.{items_view, members_view}
-use Rattle.xm_netlist.specs.Shape.{items_have_whole, members_have_whole}
-use Rattle.xm_netlist.proofs.whole.+whole.Given as goal
+use Rattle.xm_shape.specs.Shape.{items_have_whole, members_have_whole}
+use Rattle.xm_shape.proofs.whole.+whole.Given as goal
 
 abbrev pub invariant-items_have_whole-loop-item : goal.invariant-items_have_whole-loop-item
 invariant-items_have_whole-loop-item l = items_have_whole (items_view (drop l.item-index l.item-items)) ≡ items_have_whole (items_view l.items.items)

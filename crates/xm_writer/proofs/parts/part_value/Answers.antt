@@ -3,10 +3,10 @@ use Rattle.serde_json.specs.Data.{Members, object}
 use Rattle.serde_json.proofs.Views.{view-Object}
 use Rattle.xm_model.specs.Component.{component_of}
 use Rattle.xm_model.specs.Naming.{naming_of}
-use Rattle.xm_netlist.specs.Spelling.{ports_put, rest_put}
-use Rattle.xm_netlist.specs.Writing.{name_at}
-use Rattle.xm_netlist.proofs.InOrder.{component_in_order}
-use Rattle.xm_netlist.proofs.parts.part_value.Goals as goal
+use Rattle.xm_writer.specs.Spelling.{ports_put, rest_put}
+use Rattle.xm_writer.specs.Writing.{name_at}
+use Rattle.xm_writer.proofs.InOrder.{component_in_order}
+use Rattle.xm_writer.proofs.parts.part_value.Goals as goal
 
 pub put_name-requires : goal.put_name-requires
 put_name-requires c = rw c.as_slice.ensures c.requires.prims

@@ -1,4 +1,4 @@
-use Rattle.xm_netlist.proofs.parts.put_marked.Goals as goal
+use Rattle.xm_writer.proofs.parts.put_marked.Goals as goal
 
 pub marked_value-requires : goal.marked_value-requires
 marked_value-requires c = rw c.as_slice.ensures c.requires.colours

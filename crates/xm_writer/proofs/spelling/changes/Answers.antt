@@ -2,10 +2,10 @@ use Rattle.std.proofs.Common.{arith, ◌∙◌, ap}
 use Rattle.serde_json.specs.Data.{Data, put, string}
 use Rattle.serde_json.specs.View.{members_view}
 use Rattle.xm_model.specs.Naming.{texts_of}
-use Rattle.xm_netlist.specs.Writing.{name_at}
-use Rattle.xm_netlist.proofs.Spelled.{changed_all, changed_more, changed_same, view-String}
-use Rattle.xm_netlist.proofs.spelling.changes.Goals as goal
-use Rattle.xm_netlist.proofs.spelling.changes.Goals.{then-d-image+in_ok-name+in_ok-put_at_name, else-d-image}
+use Rattle.xm_writer.specs.Writing.{name_at}
+use Rattle.xm_writer.proofs.Spelled.{changed_all, changed_more, changed_same, view-String}
+use Rattle.xm_writer.proofs.spelling.changes.Goals as goal
+use Rattle.xm_writer.proofs.spelling.changes.Goals.{then-d-image+in_ok-name+in_ok-put_at_name, else-d-image}
 
 pub loop-d-preserved : goal.loop-d-preserved
 loop-d-preserved c =

@@ -3,10 +3,10 @@ use Rattle.serde_json.specs.Data.{Data, array, string}
 use Rattle.serde_json.specs.View.{items_of, view}
 use Rattle.serde_json.proofs.Views.{view-Array}
 use Rattle.xm_model.specs.Naming.{texts_of}
-use Rattle.xm_netlist.specs.Writing.{name_data}
-use Rattle.xm_netlist.proofs.Spelled.{marked_all, marked_more, marked_same, pushed, view-String}
-use Rattle.xm_netlist.proofs.spelling.marked_value.Goals as goal
-use Rattle.xm_netlist.proofs.spelling.marked_value.Goals.{then-mark+in_ok-name+in_ok-push, else-mark}
+use Rattle.xm_writer.specs.Writing.{name_data}
+use Rattle.xm_writer.proofs.Spelled.{marked_all, marked_more, marked_same, pushed, view-String}
+use Rattle.xm_writer.proofs.spelling.marked_value.Goals as goal
+use Rattle.xm_writer.proofs.spelling.marked_value.Goals.{then-mark+in_ok-name+in_ok-push, else-mark}
 
 pub loop-i-preserved : goal.loop-i-preserved
 loop-i-preserved c =

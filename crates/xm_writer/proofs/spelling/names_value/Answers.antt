@@ -4,8 +4,8 @@ use Rattle.serde_json.specs.Data.{Data, array}
 use Rattle.serde_json.specs.View.{items_of}
 use Rattle.serde_json.proofs.Views.{view-Array}
 use Rattle.xm_model.specs.Naming.{texts_of}
-use Rattle.xm_netlist.specs.Writing.{name_data}
-use Rattle.xm_netlist.proofs.spelling.names_value.Goals as goal
+use Rattle.xm_writer.specs.Writing.{name_data}
+use Rattle.xm_writer.proofs.spelling.names_value.Goals as goal
 
 pub returns : goal.returns
 returns c =

@@ -5,9 +5,9 @@ use Rattle.serde_json.specs.Data.{Data, array, string}
 use Rattle.serde_json.specs.View.{items_of}
 use Rattle.serde_json.proofs.Views.{view-Array}
 use Rattle.xm_model.specs.Naming.{texts_of}
-use Rattle.xm_netlist.specs.Writing.{name_at}
-use Rattle.xm_netlist.proofs.Spelled.{grown, view-String}
-use Rattle.xm_netlist.proofs.writing.all_names_value.Goals as goal
+use Rattle.xm_writer.specs.Writing.{name_at}
+use Rattle.xm_writer.proofs.Spelled.{grown, view-String}
+use Rattle.xm_writer.proofs.writing.all_names_value.Goals as goal
 
 pub loop-i-preserved : goal.loop-i-preserved
 loop-i-preserved c =

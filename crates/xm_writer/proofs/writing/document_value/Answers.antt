@@ -1,9 +1,9 @@
 use Rattle.std.proofs.Common.{◌∙◌, ap, map, refl}
 use Rattle.serde_json.proofs.Views.{view-Object}
 use Rattle.xm_model.specs.Component.{component_of}
-use Rattle.xm_netlist.specs.Drafted.{doc_of}
-use Rattle.xm_netlist.proofs.InOrder.{root_chain}
-use Rattle.xm_netlist.proofs.writing.document_value.Goals as goal
+use Rattle.xm_netlist.specs.Documented.{doc_of}
+use Rattle.xm_writer.proofs.InOrder.{root_chain}
+use Rattle.xm_writer.proofs.writing.document_value.Goals as goal
 
 pub all_names_value-requires : goal.all_names_value-requires
 all_names_value-requires c = rw c.as_slice.ensures c.requires.colours

@@ -1,8 +1,8 @@
 use Rattle.std.proofs.Common.{arith}
 use Rattle.serde_json.specs.View.{members_view}
 use Rattle.xm_model.specs.Naming.{naming_of}
-use Rattle.xm_netlist.proofs.Spelled.{entries_all, entries_more}
-use Rattle.xm_netlist.proofs.writing.entries_value.Goals as goal
+use Rattle.xm_writer.proofs.Spelled.{entries_all, entries_more}
+use Rattle.xm_writer.proofs.writing.entries_value.Goals as goal
 
 pub loop-entry-preserved : goal.loop-entry-preserved
 loop-entry-preserved c =

@@ -3,8 +3,8 @@ use Rattle.serde_json.specs.Data.{Data, array}
 use Rattle.serde_json.specs.View.{items_of, view}
 use Rattle.serde_json.proofs.Views.{view-Array}
 use Rattle.xm_model.specs.Naming.{naming_of}
-use Rattle.xm_netlist.proofs.Spelled.{grown, prims_all, prims_more}
-use Rattle.xm_netlist.proofs.writing.net_value.Goals as goal
+use Rattle.xm_writer.proofs.Spelled.{grown, prims_all, prims_more}
+use Rattle.xm_writer.proofs.writing.net_value.Goals as goal
 
 pub loop-p-preserved : goal.loop-p-preserved
 loop-p-preserved c =

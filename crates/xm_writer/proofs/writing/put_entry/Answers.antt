@@ -1,4 +1,4 @@
-use Rattle.xm_netlist.proofs.writing.put_entry.Goals as goal
+use Rattle.xm_writer.proofs.writing.put_entry.Goals as goal
 
 pub names_value-requires : goal.names_value-requires
 names_value-requires c = rw c.as_slice.ensures c.requires.colours

@@ -1,8 +1,8 @@
 use Rattle.std.proofs.Common.{◌∙◌, sym, refl}
 use Rattle.xm_model.specs.Component.{component_of}
-use Rattle.xm_netlist.specs.Writing.{has_packets, is_fair}
-use Rattle.xm_netlist.proofs.Uses.{list_any-map}
-use Rattle.xm_netlist.proofs.writing.version.Goals as goal
+use Rattle.xm_shape.specs.Uses.{list_any-map}
+use Rattle.xm_writer.specs.Writing.{has_packets, is_fair}
+use Rattle.xm_writer.proofs.writing.version.Goals as goal
 
 pub returns-then-any_fair : goal.returns-then-any_fair
 returns-then-any_fair c =

@@ -6,13 +6,13 @@ use Rattle.serde_json.specs.Data.{Data, depth}
 use Rattle.serde_json.specs.Read.{max_depth, read}
 use Rattle.serde_json.specs.View.{view}
 use Rattle.serde_json.specs.Written.{compact_text, has_float}
-use Rattle.xm_netlist.specs.Drafted.{doc_of}
+use Rattle.xm_netlist.specs.Documented.{doc_of}
 use Rattle.xm_netlist.specs.Reading.{document_in}
-use Rattle.xm_netlist.specs.Writing.{data_of}
-use Rattle.xm_netlist.proofs.Again.{document_again}
-use Rattle.xm_netlist.proofs.AgainText.{data_shallow, document_in-known, has_texts}
-use Rattle.xm_netlist.proofs.Line.{read-line}
-use Rattle.xm_netlist.proofs.writing.write_document.Goals as goal
+use Rattle.xm_writer.specs.Writing.{data_of}
+use Rattle.xm_writer.proofs.Again.{document_again}
+use Rattle.xm_writer.proofs.AgainText.{data_shallow, document_in-known, has_texts}
+use Rattle.xm_writer.proofs.Line.{read-line}
+use Rattle.xm_writer.proofs.writing.write_document.Goals as goal
 
 pub document_value-requires : goal.document_value-requires
 document_value-requires c = has_texts (doc_of c.args.document.now) c.requires
