@@ -1,15 +1,14 @@
 -- A draft whose colours and sizes are right makes a net within its limits.
-use Rattle.std.proofs.Common.{◌≡◌, ℕ, zero, suc, ◌<◌, ◌≤◌, true, false, cond, List, [], ◌∷◌, ◌++◌, length, get_or, map, replicate, Ok, refl, ◌∙◌, inl, inr, arith}
+use Rattle.std.proofs.Common.{◌≡◌, ℕ, zero, suc, ◌<◌, ◌≤◌, true, false, cond, List, [], ◌∷◌, ◌++◌, length, get_or, map, Ok, refl, ◌∙◌, inl, inr, arith}
 use Rattle.std.specs.Prelude.{◌||◌, ◌&&◌, nat_le, sum_by, slice_set, codes}
 use Rattle.std.specs.List.{All, flat_map}
 use Rattle.std.specs.Str.{bytes_eq}
 use Rattle.std.proofs.lemmas.Bool.{and_parts, leb-true, or_cases, or_left, or_right}
-use Rattle.std.proofs.lemmas.List.{length-append, length-map, length-replicate}
+use Rattle.std.proofs.lemmas.List.{length-map}
 use Rattle.std.proofs.lemmas.List.Elements.{All-append, All-cons, All-head, All-map, All-nil, All-set, All-tail, All-weaker}
 use Rattle.std.proofs.lemmas.List.Folds.{list_any-append}
 use Rattle.std.proofs.lemmas.List.Sums.{sum_by-cons}
 use Rattle.std.proofs.lemmas.Slice.Eq.{bytes_eq-Decides}
-use Rattle.std.proofs.Math.ListN.{length-set}
 use Rattle.xm_model.specs.Net.{FitsComponent, IsColourMap, IsWithinLimits, capacity_of, inputs, outputs}
 use Rattle.xm_shape.specs.Draft.{Draft, Form, Part, Table, channel_names, channels_of, fork, function, join, merge, queue, sink, source, switch}
 use Rattle.xm_shape.specs.Equal.{same_bytes}
@@ -20,7 +19,7 @@ use Rattle.xm_shape.specs.Shape.{net}
 use Rattle.xm_shape.specs.declared.fault.Which.{Which}
 use Rattle.xm_shape.specs.declared.fault.Which.TheVariants as which
 use Rattle.xm_netlist.specs.Lengths.{length-marks_of, length-numbers_below, length-set_each}
-use Rattle.xm_netlist.specs.Numbered.{component_in, images_of, marks_of, net_of, numbers_below, part_numbered, set_each}
+use Rattle.xm_netlist.specs.Numbered.{component_in, images_of, net_of, numbers_below, part_numbered, set_each}
 use Rattle.xm_netlist.specs.Tests.{all_known, capacity_in, capacity_sized, coloured, entry_coloured, form_capacity, form_coloured, initial_sized, known, limited, offered, offers_sized, packets_sized, part_coloured, room_sized, sized, source_sized, table_known}
 use Rattle.xm_netlist.specs.Valid.{channel_uses}
 use Rattle.xm_netlist.proofs.Passing.{All-back, All-front, both, checked, held}

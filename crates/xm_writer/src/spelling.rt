@@ -60,6 +60,7 @@ pub fn marked_value(alloc: Global, names: &[Text], marks: &[bool]) -> Result<Val
     Ok(Value::Array(values))
 }
 
+/// Puts a member in, in the place of one with this key.
 pub fn put(
     alloc: Global,
     members: &mut Map<String, Value>,
@@ -73,6 +74,7 @@ pub fn put(
     Ok(())
 }
 
+/// Puts a member in, if there is one.
 pub fn put_some(
     alloc: Global,
     members: &mut Map<String, Value>,
@@ -87,6 +89,7 @@ pub fn put_some(
     }
 }
 
+/// Puts a text in.
 pub fn put_text(
     alloc: Global,
     members: &mut Map<String, Value>,
