@@ -1,5 +1,7 @@
+use crate::channels::{channel_set, ports_of};
 use crate::draft::Draft;
 use crate::fault::DocFault;
+use crate::path::{member_text, path_text, place_text};
 use crate::shape::draft_of;
 use serde_json::Value;
 use std::alloc::Global;
@@ -99,5 +101,32 @@ fn fair_sources_come_with_version_3(rt: HostRuntime) -> Result<(), Fail> {
 fn a_kind_that_is_unknown_is_told(rt: HostRuntime) -> Result<(), Fail> {
     let text = EIGHT_KINDS.replace(rt.alloc(), "\"source\"", "\"pipe\"")?;
     assert!(rt; is_unknown_kind(rt.alloc(), text.as_str(), "net.0.kind"));
+    Ok(())
+}
+
+#[test]
+fn channels_stand_in_the_order_of_their_first_uses(rt: HostRuntime) -> Result<(), Fail> {
+    let Ok(draft) = draft_in_text(rt.alloc(), EIGHT_KINDS) else {
+        return Err(Fail::from("no draft"));
+    };
+    assert_eq!(rt; draft.parts.len(), 8);
+    let ports = ports_of(&draft.parts[4].form);
+    assert_eq!(rt; ports.first.key, "a");
+    assert_eq!(rt; ports.first.channel, "f");
+    assert!(rt; ports.third.is_some());
+    let channels = channel_set(rt.alloc(), &draft.parts)?;
+    assert_eq!(rt; channels.len(), 9);
+    assert_eq!(rt; channels.get_index_of("h"), Some(5));
+    Ok(())
+}
+
+#[test]
+fn paths_are_joined_by_dots(rt: HostRuntime) -> Result<(), Fail> {
+    let root = path_text(rt.alloc(), "net")?;
+    assert!(rt; root.as_bytes() == b"net".as_slice());
+    let member = member_text(rt.alloc(), "net.0", "out")?;
+    assert!(rt; member.as_bytes() == b"net.0.out".as_slice());
+    let place = place_text(rt.alloc(), "net", 12)?;
+    assert!(rt; place.as_bytes() == b"net.12".as_slice());
     Ok(())
 }

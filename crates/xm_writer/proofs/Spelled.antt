@@ -69,10 +69,6 @@ pub object_if_members : (es : List (String Global × Value)) → (length es ≡ 
 object_if_members [] some = absurd (some refl)
 object_if_members (e ∷ es) some = refl
 
--- one more value, which is what f gives for i
-pub pushed : (f : ℕ → Data) (values new : List Value) (v : Value) (i : ℕ) → new ≡ values ++ v ∷ [] → view v ≡ f i → map view new ≡ map view values ++ f i ∷ []
-pushed f values new v i is same = rw is (map_push view values v ∙ ap (λ (d : Data). map view values ++ d ∷ []) same)
-
 -- ---- the primitives from p on, and the entries from i on
 
 module _ (names : Naming) where
