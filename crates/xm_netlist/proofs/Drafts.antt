@@ -6,16 +6,16 @@ use Rattle.serde_json.specs.Data.{Data}
 use Rattle.xm_model.specs.Component.{component_of}
 use Rattle.xm_model.specs.Naming.{allowed_of, naming_of}
 use Rattle.xm_model.specs.Net.{IsWithinLimits, Network, network_of}
+use Rattle.xm_model.specs.Steps.{◌>>=◌}
 use Rattle.xm_model.specs.declared.parts.Primitive.{Primitive}
+use Rattle.xm_shape.specs.Draft.{Draft, channel_names}
+use Rattle.xm_shape.specs.Fault.{Fault}
+use Rattle.xm_shape.specs.Names.{Name}
 use Rattle.xm_netlist.specs.Doc.{Doc}
-use Rattle.xm_netlist.specs.Draft.{Draft, channel_names}
-use Rattle.xm_netlist.specs.Fault.{Fault}
 use Rattle.xm_netlist.specs.Making.{AreSound, IsMade, all_tests, last_test}
-use Rattle.xm_netlist.specs.Names.{Name}
 use Rattle.xm_netlist.specs.Numbered.{allow_of, naming_in, net_of, part_numbered}
 use Rattle.xm_netlist.specs.Placed.{AreFew, NumbersOf, allow_seen, naming_seen, part_number_seen}
 use Rattle.xm_netlist.specs.Reading.{doc_from, numbered}
-use Rattle.xm_netlist.specs.Steps.{◌>>=◌}
 use Rattle.xm_netlist.specs.Tests.{coloured, limited, named}
 use Rattle.xm_netlist.specs.declared.numbering.Numbers.{Numbers}
 use Rattle.xm_netlist.specs.declared.reading.Made.{Made}

@@ -3,26 +3,16 @@ use Rattle.std.proofs.Common.{◌≡◌, ℕ, suc, zero, ◌<◌, ◌≤◌, Boo
 use Rattle.std.specs.Prelude.{◌||◌, not, nat_eq, slice_get}
 use Rattle.std.specs.List.{flat_map, list_all, list_any}
 use Rattle.std.specs.Str.{bytes_eq}
-use Rattle.std.proofs.lemmas.Bool.{and_from, and_parts, cases_lt, eq-eqb, false_from_ne_true, ne_eqb, not-true, or_from, or_left, or_parts, or_right}
+use Rattle.std.proofs.lemmas.Bool.{and_from, and_parts, cases_lt, eq-eqb, ne_eqb, not-true, or_from, or_left, or_parts, or_right}
 use Rattle.std.proofs.lemmas.List.{map-append}
 use Rattle.std.proofs.lemmas.List.Folds.{list_all-append, list_any-append}
 use Rattle.std.proofs.lemmas.Slice.Eq.{bytes_eq-Decides}
-use Rattle.xm_netlist.specs.Draft.{Part, channels_of}
-use Rattle.xm_netlist.specs.Names.{Name, first_uses, is_among, number_in}
+use Rattle.xm_shape.specs.Draft.{Part, channels_of}
+use Rattle.xm_shape.specs.Equal.{same_bytes, same_names, swapped}
+use Rattle.xm_shape.specs.Names.{Name, first_uses, is_among, number_in}
 use Rattle.xm_netlist.specs.Numbered.{numbers_below, part_numbered}
 use Rattle.xm_netlist.specs.Valid.{are_distinct, channel_uses, differ, first_numbers}
 use Rattle.xm_netlist.proofs.Limited.{ports_numbered}
-
--- ---- equal names
-
-same : (n : Name) → bytes_eq n n ≡ true
-same n = (bytes_eq-Decides n n).1 refl
-
-equal : (n m : Name) → bytes_eq n m ≡ true → n ≡ m
-equal n m e = (bytes_eq-Decides n m).0 e
-
-turned : (n m : Name) → bytes_eq n m ≡ false → bytes_eq m n ≡ false
-turned n m e = false_from_ne_true (bytes_eq m n) (λ t. true≢false (sym ((bytes_eq-Decides n m).1 (sym (equal m n t))) ∙ e))
 
 -- ---- the numbers of names
 
@@ -45,7 +35,7 @@ number_below (m ∷ seen) rest n among =
 
 -- one that was not is numbered by their count
 number_next : (seen rest : List Name) (n : Name) → is_among seen n ≡ false → number_in (seen ++ n ∷ rest) n ≡ length seen
-number_next [] rest n none = rw (same n) refl
+number_next [] rest n none = rw (same_bytes n) refl
 number_next (m ∷ seen) rest n none = let parts = or_parts (bytes_eq n m) (is_among seen n) none in rw (parts.0, number_next seen rest n parts.1) (omega arith)
 
 is_below : (k m : ℕ) → k < m → list_any (nat_eq k) (numbers_below m) ≡ true
@@ -110,7 +100,7 @@ distinct_more [] n before none = refl
 distinct_more (m ∷ seen) n before none =
     let parts = and_parts (not (is_among seen m)) (are_distinct seen) before in
     let others = or_parts (bytes_eq n m) (is_among seen n) none in
-    let away : is_among (seen ++ n ∷ []) m ≡ false = list_any-append (bytes_eq m) seen (n ∷ []) ∙ or_from _ _ (not-true (is_among seen m) parts.0) (or_from _ _ (turned n m others.0) refl) in
+    let away : is_among (seen ++ n ∷ []) m ≡ false = list_any-append (bytes_eq m) seen (n ∷ []) ∙ or_from _ _ (not-true (is_among seen m) parts.0) (or_from _ _ (swapped n m others.0) refl) in
     and_from (not (is_among (seen ++ n ∷ []) m)) _ (ap not away) (distinct_more seen n parts.1 others.1)
 
 pub distinct_uses : (seen ns : List Name) → are_distinct seen ≡ true → are_distinct (first_uses seen ns) ≡ true
@@ -125,7 +115,7 @@ distinct_uses seen (n ∷ ns) before =
 
 no_match : (m : Name) (ns : List Name) → ((i : ℕ) (n : Name) → slice_get ns i ≡ Some n → bytes_eq n m ≡ false) → is_among ns m ≡ false
 no_match m [] others = refl
-no_match m (n ∷ ns) others = or_from (bytes_eq m n) (is_among ns m) (turned n m (others 0 n refl)) (no_match m ns (λ i x at. others (suc i) x at))
+no_match m (n ∷ ns) others = or_from (bytes_eq m n) (is_among ns m) (swapped n m (others 0 n refl)) (no_match m ns (λ i x at. others (suc i) x at))
 
 pub distinct_by : (names : List Name) → ((i : ℕ) (n : Name) → slice_get names i ≡ Some n → is_among (take i names) n ≡ false) → are_distinct names ≡ true
 distinct_by [] new = refl
@@ -140,7 +130,7 @@ same_number [] n m among e = absurd cc
 same_number (x ∷ xs) n m among e =
     elim (bytes_eq n x) as (λ b. bytes_eq n x ≡ b → (b || is_among xs n) ≡ true → cond b 0 (suc (number_in xs n)) ≡ number_in (x ∷ xs) m → bytes_eq n m ≡ true) [
       | true ↦ λ first here zeroth. elim (bytes_eq m x) as (λ b. bytes_eq m x ≡ b → 0 ≡ cond b 0 (suc (number_in xs m)) → bytes_eq n m ≡ true) [
-        | true ↦ λ too z. (bytes_eq-Decides n m).1 (equal n x first ∙ sym (equal m x too))
+        | true ↦ λ too z. (bytes_eq-Decides n m).1 (same_names n x first ∙ sym (same_names m x too))
         | false ↦ λ other z. absurd (omega arith)
       ] refl zeroth
       | false ↦ λ other later further. elim (bytes_eq m x) as (λ b. bytes_eq m x ≡ b → suc (number_in xs n) ≡ cond b 0 (suc (number_in xs m)) → bytes_eq n m ≡ true) [

@@ -1,26 +1,27 @@
 -- A draft whose colours and sizes are right makes a net within its limits.
-use Rattle.std.proofs.Common.{◌≡◌, ℕ, zero, suc, ◌<◌, ◌≤◌, true, false, cond, List, [], ◌∷◌, ◌++◌, length, get_or, map, replicate, Ok, refl, ◌∙◌, inl, inr, arith}
+use Rattle.std.proofs.Common.{◌≡◌, ℕ, zero, suc, ◌<◌, ◌≤◌, true, false, cond, List, [], ◌∷◌, ◌++◌, length, get_or, map, Ok, refl, ◌∙◌, inl, inr, arith}
 use Rattle.std.specs.Prelude.{◌||◌, ◌&&◌, nat_le, sum_by, slice_set, codes}
 use Rattle.std.specs.List.{All, flat_map}
 use Rattle.std.specs.Str.{bytes_eq}
 use Rattle.std.proofs.lemmas.Bool.{and_parts, leb-true, or_cases, or_left, or_right}
-use Rattle.std.proofs.lemmas.List.{length-append, length-map, length-replicate}
+use Rattle.std.proofs.lemmas.List.{length-map}
 use Rattle.std.proofs.lemmas.List.Elements.{All-append, All-cons, All-head, All-map, All-nil, All-set, All-tail, All-weaker}
 use Rattle.std.proofs.lemmas.List.Folds.{list_any-append}
 use Rattle.std.proofs.lemmas.List.Sums.{sum_by-cons}
 use Rattle.std.proofs.lemmas.Slice.Eq.{bytes_eq-Decides}
-use Rattle.std.proofs.Math.ListN.{length-set}
 use Rattle.xm_model.specs.Net.{FitsComponent, IsColourMap, IsWithinLimits, capacity_of, inputs, outputs}
-use Rattle.xm_netlist.specs.Draft.{Draft, Form, Part, Table, channel_names, channels_of, fork, function, join, merge, queue, sink, source, switch}
-use Rattle.xm_netlist.specs.Fault.{member_of, place_of}
-use Rattle.xm_netlist.specs.Names.{Name, first_uses, is_among, number_in}
-use Rattle.xm_netlist.specs.Numbered.{component_in, images_of, marks_of, net_of, numbers_below, part_numbered, set_each}
-use Rattle.xm_netlist.specs.Shape.{net}
-use Rattle.xm_netlist.specs.Steps.{each_holds}
+use Rattle.xm_shape.specs.Draft.{Draft, Form, Part, Table, channel_names, channels_of, fork, function, join, merge, queue, sink, source, switch}
+use Rattle.xm_shape.specs.Equal.{same_bytes}
+use Rattle.xm_shape.specs.Fault.{member_of, place_of}
+use Rattle.xm_shape.specs.Holding.{each_holds}
+use Rattle.xm_shape.specs.Names.{Name, first_uses, is_among, number_in}
+use Rattle.xm_shape.specs.Shape.{net}
+use Rattle.xm_shape.specs.declared.fault.Which.{Which}
+use Rattle.xm_shape.specs.declared.fault.Which.TheVariants as which
+use Rattle.xm_netlist.specs.Lengths.{length-marks_of, length-numbers_below, length-set_each}
+use Rattle.xm_netlist.specs.Numbered.{component_in, images_of, net_of, numbers_below, part_numbered, set_each}
 use Rattle.xm_netlist.specs.Tests.{all_known, capacity_in, capacity_sized, coloured, entry_coloured, form_capacity, form_coloured, initial_sized, known, limited, offered, offers_sized, packets_sized, part_coloured, room_sized, sized, source_sized, table_known}
 use Rattle.xm_netlist.specs.Valid.{channel_uses}
-use Rattle.xm_netlist.specs.declared.fault.Which.{Which}
-use Rattle.xm_netlist.specs.declared.fault.Which.TheVariants as which
 use Rattle.xm_netlist.proofs.Passing.{All-back, All-front, both, checked, held}
 
 -- ---- names that are among others
@@ -32,9 +33,6 @@ number_below (m ∷ ms) n e =
       | true ↦ λ first. omega arith
       | false ↦ λ later. (let lt = number_below ms n later in omega arith)
     ] e
-
-same_bytes : (n : Name) → bytes_eq n n ≡ true
-same_bytes n = (bytes_eq-Decides n n).1 refl
 
 among_append : (xs ys : List Name) (n : Name) → (is_among xs n || is_among ys n) ≡ true → is_among (xs ++ ys) n ≡ true
 among_append xs ys n e = list_any-append (bytes_eq n) xs ys ∙ e
@@ -126,19 +124,11 @@ are_mapped colours path (image ∷ images) e =
     All-cons (IsKnown colours) image images (checked (is_among colours image.0) _ first.0, checked (is_among colours image.1) _ second.0) (are_mapped colours path images second.1)
 
 module _ {A X : Type 0} (place : A → ℕ) (value : A → X) where
-  pub length-set_each : (as' : List A) (xs : List X) → length (set_each place value as' xs) ≡ length xs
-  length-set_each [] xs = refl
-  length-set_each (a ∷ rest) xs = length-set_each rest (slice_set xs (place a) (value a)) ∙ length-set xs (place a) (value a)
-
   pub All-set_each : (P : X → Type 0) (as' : List A) (xs : List X) → All (λ a. P (value a)) as' → All P xs → All P (set_each place value as' xs)
   All-set_each P [] xs new old = old
   All-set_each P (a ∷ rest) xs new old =
       All-set_each P rest (slice_set xs (place a) (value a)) (All-tail (λ a. P (value a)) a rest new)
       (All-set P xs (place a) (value a) (All-head (λ a. P (value a)) a rest new) old)
-
-pub length-numbers_below : (n : ℕ) → length (numbers_below n) ≡ n
-length-numbers_below zero = refl
-length-numbers_below (suc n) = omega (arith, length-append (numbers_below n) (n ∷ []), length-numbers_below n)
 
 pub all_numbers_below : (n : ℕ) → All (λ d. d < n) (numbers_below n)
 all_numbers_below zero = All-nil (λ d. d < 0)
@@ -152,9 +142,6 @@ is_colour_map colours table known_all = (
   All-set_each (λ (image : Name × Name). number_in colours image.0) (λ (image : Name × Name). number_in colours image.1) (λ d. d < length colours) table (numbers_below (length colours))
       (All-weaker (IsKnown colours) (λ image. number_in colours image.1 < length colours) (λ image e. number_below colours image.1 e.1) table known_all) (all_numbers_below (length colours)),
 )
-
-pub length-marks_of : (colours names : List Name) → length (marks_of colours names) ≡ length colours
-length-marks_of colours names = length-set_each (number_in colours) (λ (name : Name). true) names (replicate (length colours) false) ∙ length-replicate (length colours) false
 
 -- ---- sizes
 

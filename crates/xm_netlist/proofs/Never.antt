@@ -5,24 +5,25 @@ use Rattle.serde_json.specs.Data.{Data, Members, no_members, member}
 use Rattle.serde_json.specs.Find.{as_array, as_number, as_object, as_str, as_u64, get}
 use Rattle.xm_model.specs.Naming.{Naming}
 use Rattle.xm_model.specs.Net.{Network}
+use Rattle.xm_model.specs.Steps.{◌>>=◌, check, demand, each, each_from}
 use Rattle.xm_model.specs.declared.parts.SinkMode.TheVariants as sink_mode
 use Rattle.xm_model.specs.declared.parts.SourceMode.TheVariants as source_mode
 use Rattle.xm_model.specs.declared.parts.WiringFault.{WiringFault}
-use Rattle.xm_netlist.specs.Draft.{Draft, Form, Port, Table, channel_names, fork, function, join, merge, ports_of, queue, sink, source, switch}
-use Rattle.xm_netlist.specs.Fault.{Fault, bad_name, limit, member_of, not_json, place_of, same_name, shape, unknown_colour, unknown_kind}
-use Rattle.xm_netlist.specs.Names.{Name, is_among, is_colour_name, is_name}
+use Rattle.xm_shape.specs.Draft.{Draft, Form, Port, Table, channel_names, fork, function, join, merge, ports_of, queue, sink, source, switch}
+use Rattle.xm_shape.specs.Fault.{Fault, bad_name, limit, member_of, not_json, place_of, same_name, shape, unknown_colour, unknown_kind}
+use Rattle.xm_shape.specs.Holding.{each_holds, each_holds_from, refuse}
+use Rattle.xm_shape.specs.Names.{Name, is_among, is_colour_name, is_name}
+use Rattle.xm_shape.specs.Shape.{Kind, allow_in, are_channels, colours_in, draft_in, entries_at, entries_in, fork_in, form_in, form_or, function_in, has_only, images_in, initial_member, is_fork, is_function, is_join, is_merge, is_queue, is_sink, is_source, is_switch, join_in, kind_of, list_at, list_of, merge_in, net, number_at, number_member, only, optional, part_at, parts_in, pass_member, queue_in, required, root_members, side_at, side_of, sink_in, sink_mode_at, sink_mode_member, sink_mode_of, source_in, source_mode_at, source_mode_member, source_mode_of, switch_in, table_at, table_member, text_at, text_member, texts_at, texts_member, version_in, whole_member, whole_or_missing}
+use Rattle.xm_shape.specs.Gives.{Gives}
+use Rattle.xm_shape.specs.declared.fault.DocFault.{DocFault}
+use Rattle.xm_shape.specs.declared.fault.DocFault.TheVariants as faults
+use Rattle.xm_shape.specs.declared.fault.Which.{Which}
+use Rattle.xm_shape.specs.declared.fault.Which.TheVariants as which
+use Rattle.xm_netlist.specs.Documented.{doc_of}
 use Rattle.xm_netlist.specs.Numbered.{naming_in, net_of, wired, wiring_fault_of, wiring_from}
 use Rattle.xm_netlist.specs.Reading.{doc_from, document_of, numbered}
-use Rattle.xm_netlist.specs.Shape.{Kind, allow_in, are_channels, colours_in, draft_in, entries_at, entries_in, fork_in, form_in, form_or, function_in, has_only, images_in, initial_member, is_fork, is_function, is_join, is_merge, is_queue, is_sink, is_source, is_switch, join_in, kind_of, list_at, list_of, merge_in, net, number_at, number_member, only, optional, part_at, parts_in, pass_member, queue_in, required, root_members, side_at, side_of, sink_in, sink_mode_at, sink_mode_member, sink_mode_of, source_in, source_mode_at, source_mode_member, source_mode_of, switch_in, table_at, table_member, text_at, text_member, texts_at, texts_member, version_in, whole_member, whole_or_missing}
-use Rattle.xm_netlist.specs.Steps.{◌>>=◌, check, demand, each, each_from, each_holds, each_holds_from, refuse}
 use Rattle.xm_netlist.specs.Tests.{all_known, capacity_in, capacity_sized, colour_named, coloured, entry_coloured, form_coloured, initial_sized, known, limited, name_of, named, offered, offers_sized, packets_sized, part_coloured, part_named, ports_named, room_sized, sized, source_sized, table_known}
-use Rattle.xm_netlist.specs.Drafted.{doc_of}
-use Rattle.xm_netlist.specs.Gives.{Gives}
 use Rattle.xm_netlist.specs.declared.document.Document.{Document}
-use Rattle.xm_netlist.specs.declared.fault.DocFault.{DocFault}
-use Rattle.xm_netlist.specs.declared.fault.DocFault.TheVariants as faults
-use Rattle.xm_netlist.specs.declared.fault.Which.{Which}
-use Rattle.xm_netlist.specs.declared.fault.Which.TheVariants as which
 
 -- the step does not find that
 abbrev pub Spares : {A : Type 0} → Result A Fault → Type 0

@@ -3,8 +3,9 @@ use Rattle.std.proofs.Common.{◌≡◌, ℕ, suc, Bool, true, false, List, [], 
 use Rattle.std.specs.Prelude.{⊤}
 use Rattle.std.specs.List.{All}
 use Rattle.std.proofs.lemmas.List.Elements.{All-cons, All-head, All-nil, All-tail}
-use Rattle.xm_netlist.specs.Fault.{Fault}
-use Rattle.xm_netlist.specs.Steps.{◌>>=◌, check, each_holds_from}
+use Rattle.xm_model.specs.Steps.{◌>>=◌, check}
+use Rattle.xm_shape.specs.Fault.{Fault}
+use Rattle.xm_shape.specs.Holding.{each_holds_from}
 
 pub both : (r s : Result ⊤ Fault) → (r >>= λ _. s) ≡ Ok tt → (r ≡ Ok tt) × (s ≡ Ok tt)
 both (Ok x) s e = (refl, e)

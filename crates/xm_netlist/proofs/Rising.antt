@@ -5,11 +5,12 @@ use Rattle.std.specs.List.{All}
 use Rattle.std.proofs.lemmas.List.{length-replicate}
 use Rattle.std.proofs.lemmas.List.Elements.{All-cons, All-head, All-nil, All-replicate, All-tail}
 use Rattle.xm_model.specs.Net.{Network}
-use Rattle.xm_netlist.specs.Draft.{Allowing, Draft, channel_names}
-use Rattle.xm_netlist.specs.Names.{Name, number_in}
+use Rattle.xm_shape.specs.Draft.{Allowing, Draft, channel_names}
+use Rattle.xm_shape.specs.Names.{Name, number_in}
+use Rattle.xm_netlist.specs.Lengths.{length-marks_of, length-set_each}
 use Rattle.xm_netlist.specs.Numbered.{allow_of, entries_from, listed_in, marked_from, marks_of, net_of, slots_of}
 use Rattle.xm_netlist.specs.Valid.{AllowsWithin, RisesWithin}
-use Rattle.xm_netlist.proofs.Limited.{All-set_each, length-marks_of, length-set_each}
+use Rattle.xm_netlist.proofs.Limited.{All-set_each}
 
 marked_rise : (low d high : ℕ) (marks : List Bool) → low ≤ d → d + length marks ≤ high → RisesWithin low high (marked_from d marks)
 marked_rise low d high [] le most = tt

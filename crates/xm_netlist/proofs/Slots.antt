@@ -4,21 +4,21 @@ use Rattle.std.specs.Prelude.{slice_set}
 use Rattle.std.specs.List.{refill}
 use Rattle.std.proofs.lemmas.List.{length-map, length-replicate, map-set}
 use Rattle.xm_model.specs.Lending.{refill-full}
-use Rattle.xm_netlist.specs.Draft as plain
-use Rattle.xm_netlist.specs.Drafted.{allowing_seen, names_seen}
-use Rattle.xm_netlist.specs.Names.{number_in}
+use Rattle.xm_shape.specs.Draft as plain
+use Rattle.xm_shape.specs.Drafted.{allowing_seen, names_seen}
+use Rattle.xm_shape.specs.Names.{number_in}
+use Rattle.xm_shape.specs.Uses.{cut_at}
+use Rattle.xm_shape.specs.declared.draft.Allowing.{Allowing}
 use Rattle.xm_netlist.specs.Numbered.{slots_of}
 use Rattle.xm_netlist.specs.Placed.{slot_seen, slots_seen, slots_with}
-use Rattle.xm_netlist.specs.declared.draft.Allowing.{Allowing}
 use Rattle.xm_netlist.specs.declared.numbering.Numbers.{Numbers}
-use Rattle.xm_netlist.proofs.Uses.{cut_at}
 
 -- the entry at i took its slot
 pub slot_set : (numbers : Numbers) (slots new : List (Option (Bor Allowing))) (es : List Allowing) (i : ℕ) (x : Allowing) (r : Bor Allowing) (place : ℕ) (total : List (Option (List ℕ))) → i < length es → x ≡ get_or es i x → r.now ≡ x
     → place ≡ number_in (names_seen numbers.channels.keys) (string_bytes x.channel) → new ≡ slice_set slots place (Some r)
     → slots_with numbers (map allowing_seen (drop i es)) (slots_seen numbers slots) ≡ total → slots_with numbers (map allowing_seen (drop (i + 1) es)) (slots_seen numbers new) ≡ total
 slot_set numbers slots new es i x r place total lt is shows at step so_far =
-    let cut = cut_at es i x lt is in
+    let cut = cut_at es i x x lt is in
     let mapped : slots_seen numbers new ≡ slice_set (slots_seen numbers slots) (number_in (names_seen numbers.channels.keys) (string_bytes x.channel)) (slot_seen numbers (Some r)) =
     ap (slots_seen numbers) step ∙ map-set (slot_seen numbers) slots place (Some r) ∙ ap (λ (p : ℕ). slice_set (slots_seen numbers slots) p (slot_seen numbers (Some r))) at in
     let one : slots_with numbers (map allowing_seen (drop i es)) (slots_seen numbers slots) ≡ slots_with numbers (map allowing_seen (drop (i + 1) es)) (slots_seen numbers new) =

@@ -2,12 +2,12 @@
 use Rattle.std.proofs.Common.{◌≡◌, ℕ, ◌+◌, ◌<◌, List, [], ◌∷◌, ◌++◌, length, get_or, drop, map, take, Result, Ok, refl, sym, ap, ◌∙◌, add-one}
 use Rattle.std.specs.Prelude.{⊤}
 use Rattle.std.proofs.lemmas.List.{get_or-map, length-map, map_push, take_more}
-use Rattle.xm_netlist.specs.Fault.{Fault}
-use Rattle.xm_netlist.specs.Gives.{Fails}
-use Rattle.xm_netlist.specs.Steps.{each_holds_from}
-use Rattle.xm_netlist.specs.declared.fault.DocFault.{DocFault}
-use Rattle.xm_netlist.proofs.Uses.{cut_at}
-use Rattle.xm_netlist.proofs.Walk.{Fails-bind}
+use Rattle.xm_shape.specs.Failing.{Fails-bind}
+use Rattle.xm_shape.specs.Fault.{Fault}
+use Rattle.xm_shape.specs.Gives.{Fails}
+use Rattle.xm_shape.specs.Holding.{each_holds_from}
+use Rattle.xm_shape.specs.Uses.{cut_at}
+use Rattle.xm_shape.specs.declared.fault.DocFault.{DocFault}
 
 module _ {X A : Type 0} (view : X → A) (xs : List X) (i : ℕ) (x : X) (lt : i < length xs) (is : x ≡ get_or xs i x) where
   -- the items up to i
@@ -21,14 +21,14 @@ module _ {X A : Type 0} (view : X → A) (xs : List X) (i : ℕ) (x : X) (lt : i
   -- the test of the item at i passed
   pub test_passed : (f : ℕ → A → Result ⊤ Fault) (total : Result ⊤ Fault) → f i (view x) ≡ Ok tt → each_holds_from f i (map view (drop i xs)) ≡ total → each_holds_from f (i + 1) (map view (drop (i + 1) xs)) ≡ total
   test_passed f total ok so_far =
-      let cut = cut_at xs i x lt is in
+      let cut = cut_at xs i x x lt is in
       let one : each_holds_from f i (map view (drop i xs)) ≡ each_holds_from f (i + 1) (map view (drop (i + 1) xs)) = rw (cut, ok, add-one) refl in
       sym one ∙ so_far
 
   -- it failed
   pub test_failed : (f : ℕ → A → Result ⊤ Fault) (total : Result ⊤ Fault) (e : DocFault) → Fails e (f i (view x)) → each_holds_from f i (map view (drop i xs)) ≡ total → Fails e total
   test_failed f total e fails so_far =
-      let so : each_holds_from f i (map view (x ∷ drop (i + 1) xs)) ≡ total = sym (ap (λ (l : List X). each_holds_from f i (map view l)) (cut_at xs i x lt is)) ∙ so_far in
+      let so : each_holds_from f i (map view (x ∷ drop (i + 1) xs)) ≡ total = sym (ap (λ (l : List X). each_holds_from f i (map view l)) (cut_at xs i x x lt is)) ∙ so_far in
       rw (← so) (Fails-bind e (f i (view x)) _ fails)
 
   -- what f gives of the items up to i

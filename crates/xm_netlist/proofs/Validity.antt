@@ -10,20 +10,21 @@ use Rattle.serde_json.specs.Data.{Data, depth}
 use Rattle.serde_json.specs.Find.{as_object, get}
 use Rattle.xm_model.specs.Component.{Component}
 use Rattle.xm_model.specs.Net.{HasPrim}
+use Rattle.xm_model.specs.Steps.{◌>>=◌, check, demand, each}
+use Rattle.xm_shape.specs.Draft.{Draft, Form, Part, Port, channel_names, channels_of, fork, function, join, merge, ports_of, queue, sink, source, switch}
+use Rattle.xm_shape.specs.Fault.{Fault, bad_name, member_of, place_of, same_name, shape, unknown_colour}
+use Rattle.xm_shape.specs.Gives.{Gives}
+use Rattle.xm_shape.specs.Holding.{each_holds, each_holds_from}
+use Rattle.xm_shape.specs.Names.{Name, is_among, is_colour_name, is_name}
+use Rattle.xm_shape.specs.Shape.{allow_in, are_channels, colours_in, draft_in, net, only, part_at, parts_in, root_members, version_in, whole_member, whole_or_missing}
+use Rattle.xm_shape.specs.declared.fault.DocFault.{DocFault}
 use Rattle.xm_netlist.specs.Doc.{Doc}
-use Rattle.xm_netlist.specs.Draft.{Draft, Form, Part, Port, channel_names, channels_of, fork, function, join, merge, ports_of, queue, sink, source, switch}
-use Rattle.xm_netlist.specs.Drafted.{doc_of}
-use Rattle.xm_netlist.specs.Fault.{Fault, bad_name, member_of, place_of, same_name, shape, unknown_colour}
-use Rattle.xm_netlist.specs.Gives.{Gives}
-use Rattle.xm_netlist.specs.Names.{Name, is_among, is_colour_name, is_name}
+use Rattle.xm_netlist.specs.Documented.{doc_of}
 use Rattle.xm_netlist.specs.Numbered.{component_in, naming_in, net_of, part_numbered, wired}
 use Rattle.xm_netlist.specs.Reading.{doc_from, document_of, numbered}
-use Rattle.xm_netlist.specs.Shape.{allow_in, are_channels, colours_in, draft_in, net, only, part_at, parts_in, root_members, version_in, whole_member, whole_or_missing}
-use Rattle.xm_netlist.specs.Steps.{◌>>=◌, check, demand, each, each_holds, each_holds_from}
 use Rattle.xm_netlist.specs.Tests.{colour_named, coloured, form_coloured, known, limited, name_of, named, offered, part_coloured, part_named, ports_named}
 use Rattle.xm_netlist.specs.Valid.{AreNames, DiffersIn, IsPart, IsValid, are_distinct}
 use Rattle.xm_netlist.specs.declared.document.Document.{Document}
-use Rattle.xm_netlist.specs.declared.fault.DocFault.{DocFault}
 use Rattle.xm_netlist.proofs.Firsts.{differ_numbers, distinct_by, distinct_uses, formed_uses, numbered_by_uses, uses_numbered}
 use Rattle.xm_netlist.proofs.Limited.{within_limits}
 use Rattle.xm_netlist.proofs.Passing.{checked}

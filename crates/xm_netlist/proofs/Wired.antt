@@ -5,8 +5,8 @@ use Rattle.xm_model.specs.Component.{Component}
 use Rattle.xm_model.specs.Naming.{Naming}
 use Rattle.xm_model.specs.Net.{IsWellWired, IsWiredAt, Network, fault_at, initiators, targets, wiring_fault}
 use Rattle.xm_model.specs.declared.parts.WiringFault.{WiringFault}
+use Rattle.xm_shape.specs.Holding.{refuse}
 use Rattle.xm_netlist.specs.Numbered.{first_of, wired, wiring_fault_of, wiring_from}
-use Rattle.xm_netlist.specs.Steps.{refuse}
 
 single : (c : ℕ) (is ts : List ℕ) → wiring_fault c is ts ≡ None → ((p : ℕ) × (is ≡ p ∷ [])) × ((p : ℕ) × (ts ≡ p ∷ []))
 single c [] ts none = absurd cc

@@ -1,11 +1,11 @@
 -- Inner (no public clause cites it): what a draft makes, step by step.
 use Rattle.std.specs.Prelude.{◌≡◌, map, ⊤, Result, Ok}
 use Rattle.xm_model.specs.Naming.{allowed_of, naming_of}
-use Rattle.xm_netlist.specs.Draft.{Draft}
-use Rattle.xm_netlist.specs.Fault.{Fault}
+use Rattle.xm_model.specs.Steps.{◌>>=◌}
+use Rattle.xm_shape.specs.Draft.{Draft}
+use Rattle.xm_shape.specs.Fault.{Fault}
 use Rattle.xm_netlist.specs.Numbered.{allow_of, naming_in, net_of, wired}
 use Rattle.xm_netlist.specs.Placed.{NumbersOf}
-use Rattle.xm_netlist.specs.Steps.{◌>>=◌}
 use Rattle.xm_netlist.specs.Tests.{coloured, limited, named}
 use Rattle.xm_netlist.specs.declared.numbering.Numbers.{Numbers}
 use Rattle.xm_netlist.specs.declared.reading.Made.{Made}

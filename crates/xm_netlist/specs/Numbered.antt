@@ -4,10 +4,10 @@ use Rattle.xm_model.specs.Component.{Component, Fork, Function, Join, Merge, Que
 use Rattle.xm_model.specs.Naming.{Allowed, Naming}
 use Rattle.xm_model.specs.Net.{Network, fault_at}
 use Rattle.xm_model.specs.declared.parts.WiringFault.{WiringFault}
-use Rattle.xm_netlist.specs.Draft.{Allowing, Draft, Form, Part, Table, channel_names, fork, function, join, merge, queue, sink, source, switch}
-use Rattle.xm_netlist.specs.Fault.{Fault, wiring}
-use Rattle.xm_netlist.specs.Names.{Name, number_in}
-use Rattle.xm_netlist.specs.Steps.{refuse}
+use Rattle.xm_shape.specs.Draft.{Allowing, Draft, Form, Part, Table, channel_names, fork, function, join, merge, queue, sink, source, switch}
+use Rattle.xm_shape.specs.Fault.{Fault, wiring}
+use Rattle.xm_shape.specs.Holding.{refuse}
+use Rattle.xm_shape.specs.Names.{Name, number_in}
 use Rattle.xm_netlist.specs.Tests.{name_of}
 
 -- the list in which each item has set its place to its value, one after another

@@ -3,13 +3,13 @@ use Rattle.std.specs.Prelude.{◌≡◌, ℕ, ◌≤◌, List, Bool, length, map
 use Rattle.std.specs.Borrow.{Bor}
 use Rattle.xm_model.specs.Component.{Component}
 use Rattle.xm_model.specs.Naming.{Allowed, Naming}
-use Rattle.xm_netlist.specs.Draft as plain
-use Rattle.xm_netlist.specs.Draft.{Form, Part, Table, channel_names}
-use Rattle.xm_netlist.specs.Drafted.{names_seen}
-use Rattle.xm_netlist.specs.Names.{Name, number_in}
+use Rattle.xm_shape.specs.Draft as plain
+use Rattle.xm_shape.specs.Draft.{Form, Part, Table, channel_names}
+use Rattle.xm_shape.specs.Drafted.{names_seen}
+use Rattle.xm_shape.specs.Names.{Name, number_in}
+use Rattle.xm_shape.specs.declared.draft.Allowing.{Allowing}
 use Rattle.xm_netlist.specs.Numbered.{component_in, entries_from, listed_in, set_each, slots_of}
 use Rattle.xm_netlist.specs.Tests.{name_of}
-use Rattle.xm_netlist.specs.declared.draft.Allowing.{Allowing}
 use Rattle.xm_netlist.specs.declared.numbering.Numbers.{Numbers}
 
 -- the names in the order of their numbers

@@ -4,12 +4,12 @@ use Rattle.std.specs.Str.{is_utf8}
 use Rattle.serde_json.specs.Data.{Data}
 use Rattle.serde_json.specs.Find.{get}
 use Rattle.serde_json.specs.Read.{read}
+use Rattle.xm_model.specs.Steps.{◌>>=◌, demand}
+use Rattle.xm_shape.specs.Draft.{Draft}
+use Rattle.xm_shape.specs.Fault.{Fault, not_json}
+use Rattle.xm_shape.specs.Shape.{draft_in}
 use Rattle.xm_netlist.specs.Doc.{Doc}
-use Rattle.xm_netlist.specs.Draft.{Draft}
-use Rattle.xm_netlist.specs.Fault.{Fault, not_json}
 use Rattle.xm_netlist.specs.Numbered.{allow_of, naming_in, net_of, wired}
-use Rattle.xm_netlist.specs.Shape.{draft_in}
-use Rattle.xm_netlist.specs.Steps.{◌>>=◌, demand}
 use Rattle.xm_netlist.specs.Tests.{coloured, limited, named}
 
 -- the document that a draft makes

@@ -1,12 +1,13 @@
 -- Inner (no public clause cites it): the tests of a draft, cut as the code makes them.
 use Rattle.std.specs.Prelude.{ℕ, List, not, sum_by, ⊤, Result, codes}
-use Rattle.xm_netlist.specs.Draft.{Part, Table, ports_of}
-use Rattle.xm_netlist.specs.Fault.{Fault, bad_name, member_of, place_of, same_name}
-use Rattle.xm_netlist.specs.Names.{Name, is_among, is_colour_name, is_name}
-use Rattle.xm_netlist.specs.Shape.{net}
-use Rattle.xm_netlist.specs.Steps.{◌>>=◌, check, each_holds}
+use Rattle.xm_model.specs.Steps.{◌>>=◌, check}
+use Rattle.xm_shape.specs.Draft.{Part, Table, ports_of}
+use Rattle.xm_shape.specs.Fault.{Fault, bad_name, member_of, place_of, same_name}
+use Rattle.xm_shape.specs.Holding.{each_holds}
+use Rattle.xm_shape.specs.Names.{Name, is_among, is_colour_name, is_name}
+use Rattle.xm_shape.specs.Shape.{net}
+use Rattle.xm_shape.specs.declared.fault.Which.TheVariants as which
 use Rattle.xm_netlist.specs.Tests.{capacity_in, capacity_sized, initial_sized, known, offered, ports_named, sized, table_known}
-use Rattle.xm_netlist.specs.declared.fault.Which.TheVariants as which
 
 abbrev pub colour_after : List Name → ℕ → Name → Result ⊤ Fault
 colour_after before i name = do

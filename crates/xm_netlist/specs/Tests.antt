@@ -1,12 +1,13 @@
 -- What is tested of a draft, test by test: names, then colours, then sizes.
 use Rattle.std.specs.Prelude.{ℕ, List, [], ◌∷◌, ◌&&◌, not, nat_le, length, map, sum_by, take, ⊤, Result, Ok, codes}
-use Rattle.xm_netlist.specs.Draft.{Allowing, Draft, Form, Part, Port, Table, channel_names, fork, function, join, merge, ports_of, queue, sink, source, switch}
-use Rattle.xm_netlist.specs.Fault.{Fault, bad_name, limit, member_of, place_of, same_name, unknown_colour}
-use Rattle.xm_netlist.specs.Names.{Name, is_among, is_colour_name, is_name}
-use Rattle.xm_netlist.specs.Shape.{net}
-use Rattle.xm_netlist.specs.Steps.{◌>>=◌, check, each_holds}
-use Rattle.xm_netlist.specs.declared.fault.Which.{Which}
-use Rattle.xm_netlist.specs.declared.fault.Which.TheVariants as which
+use Rattle.xm_model.specs.Steps.{◌>>=◌, check}
+use Rattle.xm_shape.specs.Draft.{Allowing, Draft, Form, Part, Port, Table, channel_names, fork, function, join, merge, ports_of, queue, sink, source, switch}
+use Rattle.xm_shape.specs.Fault.{Fault, bad_name, limit, member_of, place_of, same_name, unknown_colour}
+use Rattle.xm_shape.specs.Holding.{each_holds}
+use Rattle.xm_shape.specs.Names.{Name, is_among, is_colour_name, is_name}
+use Rattle.xm_shape.specs.Shape.{net}
+use Rattle.xm_shape.specs.declared.fault.Which.{Which}
+use Rattle.xm_shape.specs.declared.fault.Which.TheVariants as which
 
 -- ---- names: each colour, then of each primitive its name and its channels
 

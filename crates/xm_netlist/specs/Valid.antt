@@ -5,10 +5,10 @@ use Rattle.serde_json.specs.Data.{Data, depth}
 use Rattle.xm_model.specs.Component.{Component, Fork, Function, Join, Merge, Queue, Sink, Source, Switch}
 use Rattle.xm_model.specs.Naming.{Allowed, IsNamed}
 use Rattle.xm_model.specs.Net.{HasPrim, IsNet, Network, inputs, outputs}
+use Rattle.xm_shape.specs.Names.{Name, is_among, is_colour_name, is_name}
+use Rattle.xm_shape.specs.Shape.{has_whole}
 use Rattle.xm_netlist.specs.Doc.{Doc}
-use Rattle.xm_netlist.specs.Names.{Name, is_among, is_colour_name, is_name}
 use Rattle.xm_netlist.specs.Numbered.{numbers_below}
-use Rattle.xm_netlist.specs.Shape.{has_whole}
 
 -- no two names are the same
 abbrev pub are_distinct : List Name → Bool

@@ -2,15 +2,15 @@
 
 ghost use Rattle.std.specs.Prelude.{◌≡◌, ◌≤◌, ◌∷◌, ◌++◌, [], IfOk, OnOk, None, length, map};
 ghost use Rattle.xm_model.specs.Naming.{allowed_of};
-ghost use Rattle.xm_netlist.specs.Drafted.{allowing_seen, names_seen};
+ghost use Rattle.xm_shape.specs.Drafted.{allowing_seen, names_seen};
 ghost use Rattle.xm_netlist.specs.Numbered as spec;
 ghost use Rattle.xm_netlist.specs.Placed.{AreFew, allow_seen, slot_seen, slots_seen, slots_with};
 
-use crate::draft::Allowing;
 use crate::numbering::{Numbers, filled, marks_of, number, set_at};
 use indexmap::IndexSet;
 use std::alloc::Global;
 use xm_model::{Allow, List, OutOfMemory};
+use xm_shape::Allowing;
 
 /// The places of the marks, from the first on.
 fn marked(alloc: Global, marks: &[bool]) -> Result<List<u8>, OutOfMemory>

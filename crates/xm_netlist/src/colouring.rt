@@ -1,20 +1,18 @@
 //! The tests of colours: each that a draft names is one of its colours.
 
 ghost use Rattle.std.specs.Prelude.{◌≡◌, ◌∷◌, ◌++◌, [], OnOk, map};
-ghost use Rattle.xm_netlist.specs.Drafted.{allowing_seen, draft_seen, form_seen, image_seen, names_seen, part_seen, table_seen};
-ghost use Rattle.xm_netlist.specs.Fault.{member_of, place_of};
-ghost use Rattle.xm_netlist.specs.Gives.{Gives};
-ghost use Rattle.xm_netlist.specs.Names.{is_among};
-ghost use Rattle.xm_netlist.specs.Steps.{each_holds};
+ghost use Rattle.xm_shape.specs.Drafted.{allowing_seen, draft_seen, form_seen, image_seen, names_seen, part_seen, table_seen};
+ghost use Rattle.xm_shape.specs.Fault.{member_of, place_of};
+ghost use Rattle.xm_shape.specs.Gives.{Gives};
+ghost use Rattle.xm_shape.specs.Holding.{each_holds};
+ghost use Rattle.xm_shape.specs.Names.{is_among};
 ghost use Rattle.xm_netlist.specs.Tested as tested;
 ghost use Rattle.xm_netlist.specs.Tests as spec;
 
-use crate::draft::{Allowing, Draft, Form, Image, Part};
-use crate::fault::DocFault;
 use crate::naming::is_new;
-use crate::path::{member_text, path_text, place_text};
 use indexmap::IndexSet;
 use std::alloc::Global;
+use xm_shape::{Allowing, DocFault, Draft, Form, Image, Part, member_text, path_text, place_text};
 
 fn is_known(colours: &IndexSet<String>, name: &str) -> bool
     ensures { result ≡ is_among (names_seen colours.now.keys) name.now }

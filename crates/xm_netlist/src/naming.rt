@@ -3,25 +3,22 @@
 ghost use Rattle.std.specs.List.{list_all};
 ghost use Rattle.std.specs.Option.{option_to_list};
 ghost use Rattle.std.specs.Prelude.{◌≡◌, ◌∷◌, ◌++◌, [], IfOk, OnOk, map, not, option_map, true};
-ghost use Rattle.xm_netlist.specs.Draft as plain;
-ghost use Rattle.xm_netlist.specs.Drafted.{draft_seen, form_seen, names_seen, part_seen};
-ghost use Rattle.xm_netlist.specs.Gives.{Gives};
-ghost use Rattle.xm_netlist.specs.Names as names;
-ghost use Rattle.xm_netlist.specs.Names.{is_among};
+ghost use Rattle.xm_shape.specs.Draft as plain;
+ghost use Rattle.xm_shape.specs.Drafted.{draft_seen, form_seen, names_seen, part_seen};
+ghost use Rattle.xm_shape.specs.Gives.{Gives};
+ghost use Rattle.xm_shape.specs.Holding.{each_holds};
+ghost use Rattle.xm_shape.specs.Names as names;
+ghost use Rattle.xm_shape.specs.Names.{is_among};
+ghost use Rattle.xm_shape.specs.Ported.{port_seen};
 ghost use Rattle.xm_netlist.specs.Placed.{NumbersOf};
-ghost use Rattle.xm_netlist.specs.Ported.{port_seen};
-ghost use Rattle.xm_netlist.specs.Steps.{each_holds};
 ghost use Rattle.xm_netlist.specs.Tested.{colour_after, part_after};
 ghost use Rattle.xm_netlist.specs.Tests as spec;
 
-use crate::channels::{Port, channel_set, ports_of};
-use crate::draft::{Draft, Form, Part};
-use crate::fault::DocFault;
 use crate::numbering::Numbers;
-use crate::path::{member_text, place_text};
 use indexmap::IndexSet;
 use std::alloc::Global;
 use xm_model::OutOfMemory;
+use xm_shape::{DocFault, Draft, Form, Part, Port, channel_set, member_text, place_text, ports_of};
 
 const LONGEST_NAME: usize = 32;
 

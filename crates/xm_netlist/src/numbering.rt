@@ -3,18 +3,17 @@
 ghost use Rattle.std.specs.Prelude.{◌≡◌, ◌≤◌, ◌∷◌, [], All, IfOk, Bool, false, length, map, replicate, slice_set, true};
 ghost use Rattle.xm_model.specs.Component.{component_of};
 ghost use Rattle.xm_model.specs.Naming.{naming_of, texts_of};
-ghost use Rattle.xm_netlist.specs.Draft as plain;
-ghost use Rattle.xm_netlist.specs.Drafted.{form_seen, names_seen, part_seen, table_seen};
-ghost use Rattle.xm_netlist.specs.Names.{number_in};
+ghost use Rattle.xm_shape.specs.Draft as plain;
+ghost use Rattle.xm_shape.specs.Drafted.{form_seen, names_seen, part_seen, table_seen};
+ghost use Rattle.xm_shape.specs.Names.{number_in};
 ghost use Rattle.xm_netlist.specs.Numbered as spec;
 ghost use Rattle.xm_netlist.specs.Placed.{AreFew, component_seen, naming_seen, part_number_seen, with_images, with_marks};
 ghost use Rattle.xm_netlist.specs.Tests.{capacity_in, form_capacity};
 
-use crate::draft::{Form, Image, Part};
-use crate::path::path_text;
 use indexmap::IndexSet;
 use std::alloc::Global;
 use xm_model::{List, Names, OutOfMemory, Prim, SourceMode, Text};
+use xm_shape::{Form, Image, Part, path_text};
 
 /// The names that a draft numbers: the number of a name is its place.
 #[derive(Drop)]
@@ -26,8 +25,8 @@ pub(crate) struct Numbers {
 
 impl Numbers {
     ghost use Rattle.std.specs.Prelude.{◌≡◌};
-    ghost use Rattle.xm_netlist.specs.Drafted.{names_seen};
-    ghost use Rattle.xm_netlist.specs.Names.{number_in};
+    ghost use Rattle.xm_shape.specs.Drafted.{names_seen};
+    ghost use Rattle.xm_shape.specs.Names.{number_in};
     ghost use Rattle.xm_netlist.specs.Placed.{AreFew};
 
     fn channel(&self, name: &str) -> u32

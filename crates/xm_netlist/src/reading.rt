@@ -6,27 +6,26 @@ ghost use Rattle.serde_json.specs.Data.{depth};
 ghost use Rattle.serde_json.specs.Find.{as_object, get, get_member};
 ghost use Rattle.serde_json.specs.View.{members_view, view};
 ghost use Rattle.xm_model.specs.Net.{IsFirstFault, IsWellWired};
-ghost use Rattle.xm_netlist.specs.Drafted.{doc_of, draft_seen};
-ghost use Rattle.xm_netlist.specs.Fault.{not_json};
-ghost use Rattle.xm_netlist.specs.Gives.{Gives};
+ghost use Rattle.xm_model.specs.Steps.{demand};
+ghost use Rattle.xm_shape.specs.Drafted.{draft_seen};
+ghost use Rattle.xm_shape.specs.Fault.{not_json};
+ghost use Rattle.xm_shape.specs.Gives.{Gives};
+ghost use Rattle.xm_netlist.specs.Documented.{doc_of};
 ghost use Rattle.xm_netlist.specs.Numbered as numbers_spec;
 ghost use Rattle.xm_netlist.specs.Making.{AreSound, IsMade, all_tests, first_tests, last_test};
 ghost use Rattle.xm_netlist.specs.Reading as spec;
-ghost use Rattle.xm_netlist.specs.Steps.{demand};
 ghost use Rattle.xm_netlist.specs.Valid.{IsValid};
 
 use crate::allowing::allow_of;
 use crate::colouring::coloured;
 use crate::document::Document;
-use crate::draft::Draft;
-use crate::fault::DocFault;
 use crate::naming::named;
 use crate::numbering::{Numbers, components, names_of};
-use crate::shape::draft_of;
 use crate::sizes::limited;
 use serde_json::{Map, Value};
 use std::alloc::Global;
 use xm_model::{Allow, List, Names, Net, NewFault, OutOfMemory};
+use xm_shape::{DocFault, Draft, draft_of};
 
 /// The net of a draft, or the fault of the first channel that is not wired.
 fn net_of(alloc: Global, draft: &Draft, numbers: &Numbers) -> Result<Net, NewFault>

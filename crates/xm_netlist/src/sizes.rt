@@ -1,15 +1,14 @@
 //! The limits on sizes.
 
 ghost use Rattle.std.specs.Prelude.{◌≡◌, ◌≤◌, All, length, map, sum_by};
-ghost use Rattle.xm_netlist.specs.Draft as plain;
-ghost use Rattle.xm_netlist.specs.Drafted.{draft_seen, form_seen, part_seen};
-ghost use Rattle.xm_netlist.specs.Gives.{Gives};
-ghost use Rattle.xm_netlist.specs.Steps.{each_holds};
+ghost use Rattle.xm_shape.specs.Draft as plain;
+ghost use Rattle.xm_shape.specs.Drafted.{draft_seen, form_seen, part_seen};
+ghost use Rattle.xm_shape.specs.Gives.{Gives};
+ghost use Rattle.xm_shape.specs.Holding.{each_holds};
 ghost use Rattle.xm_netlist.specs.Tested.{rooms_sized};
 ghost use Rattle.xm_netlist.specs.Tests as spec;
 
-use crate::draft::{Draft, Form, Part};
-use crate::fault::{DocFault, Which};
+use xm_shape::{DocFault, Draft, Form, Part, Which};
 
 const MOST_COLOURS: u64 = 64;
 

@@ -4,9 +4,9 @@ use Rattle.xm_model.specs.Lines.{line, name_at}
 use Rattle.xm_model.specs.Naming.{Naming}
 use Rattle.xm_model.specs.declared.parts.WiringFault.{WiringFault}
 use Rattle.xm_model.specs.declared.parts.WiringFault.TheVariants.{NoInitiator, TwoInitiators, NoTarget, TwoTargets}
-use Rattle.xm_netlist.specs.Fault as document
-use Rattle.xm_netlist.specs.declared.fault.Which.{Which}
-use Rattle.xm_netlist.specs.declared.fault.Which.TheVariants as which
+use Rattle.xm_shape.specs.Fault as document
+use Rattle.xm_shape.specs.declared.fault.Which.{Which}
+use Rattle.xm_shape.specs.declared.fault.Which.TheVariants as which
 use Rattle.xm_order.specs.declared.signal.Signal.{Signal}
 use Rattle.xm_order.specs.declared.signal.Signal.TheVariants as signal
 use Rattle.xm_tape.specs.Fault as tape

@@ -1,9 +1,9 @@
 -- The faults of the code, in plain lists; want of memory is none.
 use Rattle.std.specs.Prelude.{Option, Some, None}
 use Rattle.xm_model.specs.Naming.{naming_of}
-use Rattle.xm_netlist.specs.Fault as document
-use Rattle.xm_netlist.specs.declared.fault.DocFault.{DocFault}
-use Rattle.xm_netlist.specs.declared.fault.DocFault.TheVariants as doc_faults
+use Rattle.xm_shape.specs.Fault as document
+use Rattle.xm_shape.specs.declared.fault.DocFault.{DocFault}
+use Rattle.xm_shape.specs.declared.fault.DocFault.TheVariants as doc_faults
 use Rattle.xm_tape.specs.Fault as tape
 use Rattle.xm_tape.specs.declared.fault.TapeFault.{TapeFault}
 use Rattle.xm_tape.specs.declared.fault.TapeFault.TheVariants as tape_faults

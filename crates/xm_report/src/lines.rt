@@ -10,8 +10,8 @@ ghost use Rattle.xm_report.specs.Seen.{document_fault, tape_fault};
 use crate::pieces::{push_count, push_name};
 use std::alloc::Global;
 use xm_model::{Names, OutOfMemory, Text, WiringFault};
-use xm_netlist::{DocFault, Which};
 use xm_order::Signal;
+use xm_shape::{DocFault, Which};
 use xm_tape::TapeFault;
 
 /// The line of a fault at channel `c`.

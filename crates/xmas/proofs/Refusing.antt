@@ -5,12 +5,12 @@ use Rattle.xm_design.specs.declared.fault.NetFault.{NetFault}
 use Rattle.xm_design.specs.declared.fault.NetFault.TheVariants as net_faults
 use Rattle.xm_model.specs.Naming.{Allowed, Naming}
 use Rattle.xm_model.specs.Net.{Network}
+use Rattle.xm_shape.specs.Fault.{Fault}
+use Rattle.xm_shape.specs.Gives.{Fails}
+use Rattle.xm_shape.specs.declared.fault.DocFault.{DocFault}
+use Rattle.xm_shape.specs.declared.fault.DocFault.TheVariants as doc_faults
 use Rattle.xm_netlist.specs.Doc.{Doc}
-use Rattle.xm_netlist.specs.Fault.{Fault}
-use Rattle.xm_netlist.specs.Gives.{Fails}
 use Rattle.xm_netlist.specs.Reading.{document_in}
-use Rattle.xm_netlist.specs.declared.fault.DocFault.{DocFault}
-use Rattle.xm_netlist.specs.declared.fault.DocFault.TheVariants as doc_faults
 use Rattle.xm_report.specs.Lines.{colour_line, document_line, loop_line, tape_line}
 use Rattle.xm_report.specs.Seen.{document_fault, tape_fault}
 use Rattle.xm_tape.specs.Fault as tape

@@ -3,8 +3,8 @@ use Rattle.std.specs.Prelude.{◌≡◌, ℕ, List, Ok, Err}
 use Rattle.xm_colours.specs.Allowing.{AllowsAll}
 use Rattle.xm_colours.specs.Family.{colours_at}
 use Rattle.xm_design.specs.Designed.{Designed, IsColourRefused, IsDesigned, IsLoopRefused}
+use Rattle.xm_shape.specs.Fault.{Fault, bad_name, limit, not_json, same_name, shape, unknown_colour, unknown_kind, wiring}
 use Rattle.xm_netlist.specs.Doc.{Doc}
-use Rattle.xm_netlist.specs.Fault.{Fault, bad_name, limit, not_json, same_name, shape, unknown_colour, unknown_kind, wiring}
 use Rattle.xm_netlist.specs.Reading.{document_in}
 use Rattle.xm_order.specs.declared.signal.Signal.{Signal}
 use Rattle.xm_report.specs.Check.{check_text}

@@ -6,13 +6,13 @@ use Rattle.xm_design.specs.declared.fault.NetFault.{NetFault}
 use Rattle.xm_design.specs.declared.fault.NetFault.TheVariants as net_faults
 use Rattle.xm_model.specs.Naming.{Allowed, IsNamed, Naming, naming_of}
 use Rattle.xm_model.specs.Net.{Network}
+use Rattle.xm_shape.specs.declared.fault.DocFault.{DocFault}
+use Rattle.xm_shape.specs.declared.fault.DocFault.TheVariants as doc_faults
 use Rattle.xm_netlist.specs.Doc.{Doc}
-use Rattle.xm_netlist.specs.Drafted.{doc_of}
+use Rattle.xm_netlist.specs.Documented.{doc_of}
 use Rattle.xm_netlist.specs.Reading.{document_in}
 use Rattle.xm_netlist.specs.Valid.{IsValid}
 use Rattle.xm_netlist.specs.declared.document.Document.{Document}
-use Rattle.xm_netlist.specs.declared.fault.DocFault.{DocFault}
-use Rattle.xm_netlist.specs.declared.fault.DocFault.TheVariants as doc_faults
 use Rattle.xm_report.specs.Lines.{colour_line, loop_line}
 use Rattle.xm_tape.specs.declared.fault.TapeFault.{TapeFault}
 use Rattle.xm_tape.specs.declared.fault.TapeFault.TheVariants as tape_faults

@@ -1,7 +1,7 @@
 use Rattle.std.proofs.Common.{◌∙◌, length, string_bytes, arith, ap}
 use Rattle.std.proofs.lemmas.List.{length-map}
-use Rattle.xm_netlist.specs.Drafted.{names_seen}
-use Rattle.xm_netlist.proofs.Limited.{length-marks_of}
+use Rattle.xm_shape.specs.Drafted.{names_seen}
+use Rattle.xm_netlist.specs.Lengths.{length-marks_of}
 use Rattle.xm_netlist.proofs.allowing.listed.Goals as goal
 
 pub marked-requires : goal.marked-requires

@@ -1,6 +1,6 @@
 use Rattle.std.proofs.Common.{◌∙◌, ap, refl}
-use Rattle.xm_netlist.specs.Drafted.{names_seen}
-use Rattle.xm_netlist.specs.Names.{Name, number_in}
+use Rattle.xm_shape.specs.Drafted.{names_seen}
+use Rattle.xm_shape.specs.Names.{Name, number_in}
 use Rattle.xm_netlist.proofs.Slots.{slot_set}
 use Rattle.xm_netlist.proofs.allowing.set_slots.Goals as goal
 

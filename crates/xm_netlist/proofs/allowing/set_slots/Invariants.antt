@@ -1,5 +1,5 @@
 use Rattle.std.proofs.Common.{◌≡◌, drop, map}
-use Rattle.xm_netlist.specs.Drafted.{allowing_seen}
+use Rattle.xm_shape.specs.Drafted.{allowing_seen}
 use Rattle.xm_netlist.specs.Placed.{slots_seen, slots_with}
 use Rattle.xm_netlist.proofs.allowing.set_slots.Given as goal
 

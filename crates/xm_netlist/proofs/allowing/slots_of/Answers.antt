@@ -1,5 +1,5 @@
 use Rattle.std.proofs.Common.{map}
-use Rattle.xm_netlist.specs.Drafted.{allowing_seen}
+use Rattle.xm_shape.specs.Drafted.{allowing_seen}
 use Rattle.xm_netlist.proofs.Slots.{slots_count, slots_made}
 use Rattle.xm_netlist.proofs.allowing.slots_of.Goals as goal
 

@@ -1,7 +1,7 @@
 use Rattle.std.proofs.Common.{◌≡◌, drop}
-use Rattle.xm_netlist.specs.Drafted.{names_seen}
-use Rattle.xm_netlist.specs.Fault.{place_of}
-use Rattle.xm_netlist.specs.Steps.{each_holds_from}
+use Rattle.xm_shape.specs.Drafted.{names_seen}
+use Rattle.xm_shape.specs.Fault.{place_of}
+use Rattle.xm_shape.specs.Holding.{each_holds_from}
 use Rattle.xm_netlist.specs.Tests.{all_known, known}
 use Rattle.xm_netlist.proofs.colouring.all_known.Given as goal
 

@@ -1,6 +1,6 @@
 use Rattle.std.proofs.Common.{◌≡◌, drop, take}
-use Rattle.xm_netlist.specs.Drafted.{names_seen}
-use Rattle.xm_netlist.specs.Steps.{each_holds_from}
+use Rattle.xm_shape.specs.Drafted.{names_seen}
+use Rattle.xm_shape.specs.Holding.{each_holds_from}
 use Rattle.xm_netlist.specs.Tested.{all_offered}
 use Rattle.xm_netlist.specs.Tests.{offered}
 use Rattle.xm_netlist.proofs.colouring.all_offered.Given as goal

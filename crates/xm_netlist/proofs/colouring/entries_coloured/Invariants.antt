@@ -1,6 +1,6 @@
 use Rattle.std.proofs.Common.{◌≡◌, drop, map}
-use Rattle.xm_netlist.specs.Drafted.{allowing_seen, names_seen}
-use Rattle.xm_netlist.specs.Steps.{each_holds, each_holds_from}
+use Rattle.xm_shape.specs.Drafted.{allowing_seen, names_seen}
+use Rattle.xm_shape.specs.Holding.{each_holds, each_holds_from}
 use Rattle.xm_netlist.specs.Tests.{entry_coloured}
 use Rattle.xm_netlist.proofs.colouring.entries_coloured.Given as goal
 

@@ -1,5 +1,5 @@
 use Rattle.std.proofs.Common.{◌≡◌, drop}
-use Rattle.xm_netlist.specs.Drafted.{names_seen, table_seen}
+use Rattle.xm_shape.specs.Drafted.{names_seen, table_seen}
 use Rattle.xm_netlist.specs.Tests.{table_known}
 use Rattle.xm_netlist.proofs.colouring.table_known.Given as goal
 

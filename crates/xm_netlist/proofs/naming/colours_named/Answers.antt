@@ -1,6 +1,6 @@
 use Rattle.std.proofs.Common.{◌++◌, ◌∷◌, ◌∙◌, [], ap, string_bytes}
-use Rattle.xm_netlist.specs.Drafted.{names_seen}
-use Rattle.xm_netlist.specs.Names.{Name}
+use Rattle.xm_shape.specs.Drafted.{names_seen}
+use Rattle.xm_shape.specs.Names.{Name}
 use Rattle.xm_netlist.specs.Tests.{colour_named}
 use Rattle.xm_netlist.proofs.Testing.{taken, test_passed}
 use Rattle.xm_netlist.proofs.naming.colours_named.Goals as goal

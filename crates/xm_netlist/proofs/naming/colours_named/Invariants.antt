@@ -1,6 +1,6 @@
 use Rattle.std.proofs.Common.{◌≡◌, drop, take}
-use Rattle.xm_netlist.specs.Drafted.{names_seen}
-use Rattle.xm_netlist.specs.Steps.{each_holds, each_holds_from}
+use Rattle.xm_shape.specs.Drafted.{names_seen}
+use Rattle.xm_shape.specs.Holding.{each_holds, each_holds_from}
 use Rattle.xm_netlist.specs.Tests.{colour_named}
 use Rattle.xm_netlist.proofs.naming.colours_named.Given as goal
 

@@ -1,6 +1,6 @@
 use Rattle.std.proofs.Common.{map}
 use Rattle.std.proofs.lemmas.Result.{err_from_is_err_and}
-use Rattle.xm_netlist.specs.Drafted.{names_seen, part_seen}
+use Rattle.xm_shape.specs.Drafted.{names_seen, part_seen}
 use Rattle.xm_netlist.specs.Tests.{name_of, part_named}
 use Rattle.xm_netlist.proofs.Testing.{name_taken, test_failed, test_passed}
 use Rattle.xm_netlist.proofs.naming.parts_named.Goals as goal

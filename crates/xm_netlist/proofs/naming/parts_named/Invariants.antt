@@ -1,6 +1,6 @@
 use Rattle.std.proofs.Common.{◌≡◌, drop, map, take}
-use Rattle.xm_netlist.specs.Drafted.{names_seen, part_seen}
-use Rattle.xm_netlist.specs.Steps.{each_holds, each_holds_from}
+use Rattle.xm_shape.specs.Drafted.{names_seen, part_seen}
+use Rattle.xm_shape.specs.Holding.{each_holds, each_holds_from}
 use Rattle.xm_netlist.specs.Tests.{name_of, part_named}
 use Rattle.xm_netlist.proofs.naming.parts_named.Given as goal
 

@@ -1,6 +1,6 @@
 use Rattle.std.proofs.Common.{◌≡◌, map, take}
-use Rattle.xm_netlist.specs.Drafted.{names_seen}
-use Rattle.xm_netlist.specs.Names.{number_in}
+use Rattle.xm_shape.specs.Drafted.{names_seen}
+use Rattle.xm_shape.specs.Names.{number_in}
 use Rattle.xm_netlist.proofs.numbering.colour_numbers.Given as goal
 
 abbrev pub invariant-loop-name : goal.invariant-loop-name

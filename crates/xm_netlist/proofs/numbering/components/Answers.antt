@@ -1,6 +1,6 @@
 use Rattle.std.proofs.Common.{◌≤◌}
-use Rattle.xm_netlist.specs.Draft.{Part}
-use Rattle.xm_netlist.specs.Drafted.{part_seen}
+use Rattle.xm_shape.specs.Draft.{Part}
+use Rattle.xm_shape.specs.Drafted.{part_seen}
 use Rattle.xm_netlist.specs.Tests.{capacity_in}
 use Rattle.xm_netlist.proofs.Places.{seen_at}
 use Rattle.xm_netlist.proofs.numbering.components.Goals as goal

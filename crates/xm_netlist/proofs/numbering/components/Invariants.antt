@@ -1,6 +1,6 @@
 use Rattle.std.proofs.Common.{◌≡◌, map, take}
 use Rattle.xm_model.specs.Component.{component_of}
-use Rattle.xm_netlist.specs.Drafted.{part_seen}
+use Rattle.xm_shape.specs.Drafted.{part_seen}
 use Rattle.xm_netlist.specs.Placed.{part_number_seen}
 use Rattle.xm_netlist.proofs.numbering.components.Given as goal
 

@@ -1,5 +1,5 @@
 use Rattle.std.proofs.Common.{◌≡◌, drop}
-use Rattle.xm_netlist.specs.Drafted.{names_seen, table_seen}
+use Rattle.xm_shape.specs.Drafted.{names_seen, table_seen}
 use Rattle.xm_netlist.specs.Placed.{with_images}
 use Rattle.xm_netlist.proofs.numbering.set_images.Given as goal
 

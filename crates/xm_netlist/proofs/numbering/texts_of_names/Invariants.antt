@@ -1,6 +1,6 @@
 use Rattle.std.proofs.Common.{◌≡◌, take}
 use Rattle.xm_model.specs.Naming.{texts_of}
-use Rattle.xm_netlist.specs.Drafted.{names_seen}
+use Rattle.xm_shape.specs.Drafted.{names_seen}
 use Rattle.xm_netlist.proofs.numbering.texts_of_names.Given as goal
 
 abbrev pub invariant-loop-name : goal.invariant-loop-name

@@ -2,13 +2,13 @@ use Rattle.std.proofs.Common.{◌∙◌, Err, List, ap, ap₂, map, refl, subst,
 use Rattle.xm_model.specs.Naming.{Naming}
 use Rattle.xm_model.specs.Net.{IsWellWired}
 use Rattle.xm_model.specs.declared.parts.WiringFault.{WiringFault}
-use Rattle.xm_netlist.specs.Fault.{wiring}
-use Rattle.xm_netlist.specs.Drafted.{allowing_seen, draft_seen}
+use Rattle.xm_shape.specs.Fault.{wiring}
+use Rattle.xm_shape.specs.Drafted.{allowing_seen, draft_seen}
+use Rattle.xm_shape.specs.declared.draft.Allowing as code
+use Rattle.xm_netlist.specs.FirstFault.{is_wired, not_wired}
 use Rattle.xm_netlist.specs.Numbered.{naming_in, net_of}
 use Rattle.xm_netlist.specs.Placed.{allow_seen}
-use Rattle.xm_netlist.specs.declared.draft.Allowing as code
 use Rattle.xm_netlist.proofs.Drafts.{are_few, same_allow, same_names}
-use Rattle.xm_netlist.proofs.FirstFault.{is_wired, not_wired}
 use Rattle.xm_netlist.proofs.reading.made_of.Goals as goal
 
 pub allow_of-requires : goal.allow_of-requires

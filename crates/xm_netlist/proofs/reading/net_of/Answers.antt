@@ -2,14 +2,14 @@ use Rattle.std.proofs.Common.{◌≡◌, ◌≤◌, ◌∙◌, All, ℕ, List, a
 use Rattle.std.proofs.lemmas.Result.{IfOk-weaker}
 use Rattle.xm_model.specs.Component.{component_of}
 use Rattle.xm_model.specs.Net.{IsFirstFault, Network, network_of}
-use Rattle.xm_netlist.specs.Drafted.{draft_seen, part_seen}
+use Rattle.xm_model.specs.declared.parts.Primitive.{Primitive}
+use Rattle.xm_shape.specs.Drafted.{draft_seen, part_seen}
+use Rattle.xm_shape.specs.declared.draft.Draft as code_draft
+use Rattle.xm_shape.specs.declared.draft.Part as code
 use Rattle.xm_netlist.specs.Numbered.{net_of}
 use Rattle.xm_netlist.specs.Placed.{part_number_seen}
 use Rattle.xm_netlist.specs.Tests.{capacity_in}
-use Rattle.xm_model.specs.declared.parts.Primitive.{Primitive}
 use Rattle.xm_netlist.specs.Making.{AreSound}
-use Rattle.xm_netlist.specs.declared.draft.Draft as code_draft
-use Rattle.xm_netlist.specs.declared.draft.Part as code
 use Rattle.xm_netlist.specs.declared.numbering.Numbers.{Numbers}
 use Rattle.xm_netlist.proofs.Drafts.{are_few, net_within, same_net}
 use Rattle.xm_netlist.proofs.Limited.{limits}

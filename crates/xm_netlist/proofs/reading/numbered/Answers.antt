@@ -1,10 +1,10 @@
 use Rattle.std.proofs.Common.{option_map}
 use Rattle.std.proofs.lemmas.Result.{err_from_is_err_and}
 use Rattle.serde_json.specs.View.{view}
-use Rattle.xm_netlist.specs.Drafted.{draft_seen}
+use Rattle.xm_shape.specs.Drafted.{draft_seen}
+use Rattle.xm_shape.specs.Failing.{Fails-bind}
 use Rattle.xm_netlist.specs.Making.{all_tests}
 use Rattle.xm_netlist.proofs.Drafts.{numbered_by_tests, numbered_made}
-use Rattle.xm_netlist.proofs.Walk.{Fails-bind}
 use Rattle.xm_netlist.proofs.reading.numbered.Goals as goal
 
 pub returns-in_err-it : goal.returns-in_err-it

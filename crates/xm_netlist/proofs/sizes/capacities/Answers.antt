@@ -1,7 +1,7 @@
 use Rattle.std.proofs.Common.{◌≤◌, ℕ, arith, subst, sym}
 use Rattle.std.proofs.lemmas.Grind.{common_steps}
-use Rattle.xm_netlist.specs.Draft.{Part}
-use Rattle.xm_netlist.specs.Drafted.{part_seen}
+use Rattle.xm_shape.specs.Draft.{Part}
+use Rattle.xm_shape.specs.Drafted.{part_seen}
 use Rattle.xm_netlist.specs.Tests.{capacity_in}
 use Rattle.xm_netlist.proofs.Places.{seen_at}
 use Rattle.xm_netlist.proofs.sizes.capacities.Goals as goal

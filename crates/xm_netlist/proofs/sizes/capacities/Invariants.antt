@@ -1,6 +1,6 @@
 use Rattle.std.proofs.Common.{◌≡◌, ◌*◌, ◌≤◌, map, take}
 use Rattle.std.specs.Prelude.{sum_by}
-use Rattle.xm_netlist.specs.Drafted.{part_seen}
+use Rattle.xm_shape.specs.Drafted.{part_seen}
 use Rattle.xm_netlist.specs.Tests.{capacity_in}
 use Rattle.xm_netlist.proofs.sizes.capacities.Given as goal
 

@@ -1,6 +1,6 @@
 use Rattle.std.proofs.Common.{◌≡◌, drop, map}
-use Rattle.xm_netlist.specs.Drafted.{part_seen}
-use Rattle.xm_netlist.specs.Steps.{each_holds, each_holds_from}
+use Rattle.xm_shape.specs.Drafted.{part_seen}
+use Rattle.xm_shape.specs.Holding.{each_holds, each_holds_from}
 use Rattle.xm_netlist.specs.Tests.{initial_sized}
 use Rattle.xm_netlist.proofs.sizes.initials_sized.Given as goal
 

@@ -1,5 +1,5 @@
 use Rattle.std.proofs.Common.{map}
-use Rattle.xm_netlist.specs.Drafted.{part_seen}
+use Rattle.xm_shape.specs.Drafted.{part_seen}
 use Rattle.xm_netlist.proofs.Limited.{all_small}
 use Rattle.xm_netlist.proofs.sizes.rooms_sized.Goals as goal
 

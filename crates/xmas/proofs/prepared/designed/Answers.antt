@@ -1,5 +1,5 @@
 use Rattle.std.proofs.Common.{refl}
-use Rattle.xm_netlist.specs.Drafted.{doc_of}
+use Rattle.xm_netlist.specs.Documented.{doc_of}
 use Rattle.xmas.proofs.Refusing.{net_fault}
 use Rattle.xmas.proofs.prepared.designed.Goals as goal
 

@@ -1,7 +1,0 @@
-use Rattle.std.proofs.Common.{◌∙◌, string_bytes, sym}
-use Rattle.std.specs.Str.{bytes_eq}
-use Rattle.xm_netlist.proofs.Uses.{list_any-map}
-use Rattle.xm_netlist.proofs.shape.is_channel.Goals as goal
-
-pub returns : goal.returns
-returns c = c.contains.ensures ∙ sym (list_any-map (bytes_eq c.args.name.now) string_bytes c.args.channels.now.keys)

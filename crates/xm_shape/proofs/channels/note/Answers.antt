@@ -1,0 +1,6 @@
+use Rattle.xm_shape.specs.Uses.{noted}
+use Rattle.xm_shape.proofs.channels.note.Goals as goal
+
+pub returns : goal.returns
+returns c =
+    noted c.args.set.now.keys c.insert_full.new.self.keys c.in_ok-from_str.field-0 c.args.name.now c.in_ok-from_str.ensures.ok c.in_ok-insert_full.ensures.keys

@@ -1,0 +1,12 @@
+pub mod Draft
+pub mod Drafted
+pub mod Equal
+pub mod Failing
+pub mod Fault
+pub mod Gives
+pub mod Holding
+pub mod Kinds
+pub mod Names
+pub mod Ported
+pub mod Shape
+pub mod Uses

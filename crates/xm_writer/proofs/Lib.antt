@@ -1,0 +1,13 @@
+pub mod Again
+pub mod AgainAllow
+pub mod AgainLists
+pub mod AgainMaps
+pub mod AgainMarks
+pub mod AgainNames
+pub mod AgainNumbers
+pub mod AgainParts
+pub mod AgainTests
+pub mod AgainText
+pub mod InOrder
+pub mod Line
+pub mod Spelled

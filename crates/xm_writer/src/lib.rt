@@ -1,0 +1,11 @@
+//! Documents as canonical texts, which are read as the same documents again.
+#![tactic(auto)]
+
+mod parts;
+mod spelling;
+mod writing;
+
+pub use writing::write_document;
+
+#[cfg(test)]
+mod tests_writing;
