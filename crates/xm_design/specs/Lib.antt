@@ -2,3 +2,4 @@ pub mod ColouredRuns
 pub mod Designed
 pub mod Numbers
 pub mod Offers
+pub mod Tasks

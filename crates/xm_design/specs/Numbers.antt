@@ -3,6 +3,8 @@ use Rattle.std.specs.Prelude.{◌≡◌, ℕ, zero, suc, ◌+◌, ◌*◌, ◌<�
 use Rattle.xm_colours.specs.Family.{colours_at}
 use Rattle.xm_colours.specs.Pairs.{queue_pairs_at}
 use Rattle.xm_design.specs.Designed.{Designed, IsDesigned}
+use Rattle.xm_design.specs.Tasks.{AreTasks}
+use Rattle.xm_design.specs.declared.tasks.Task.{Task}
 use Rattle.xm_model.specs.Component.{Component, Queue}
 use Rattle.xm_model.specs.Lists.{oracles_below}
 use Rattle.xm_model.specs.Net.{HasPrim}
@@ -42,8 +44,9 @@ pub record IsQueuePair (it : Designed) (q d : ℕ) : Type 0 where
   pub colour : IsIn (colours_at it.colours out) d
 
 -- what a design keeps beside net, colours and order
-pub record IsKept (it : Designed) (places below : List ℕ) (choices : ℕ) : Type 0 where
+pub record IsKept (it : Designed) (places below : List ℕ) (choices : ℕ) (made : List Task) : Type 0 where
   pub designed : IsDesigned it
   pub count : choices ≡ oracles_below it.net.prims (length it.net.prims)
   pub oracles : IsOracles it.net.prims places
   pub pairs : ArePairsBelow (colours_at it.colours) it.net.prims below
+  pub tasks : AreTasks it.net it.order made

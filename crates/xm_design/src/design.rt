@@ -10,6 +10,7 @@ ghost use Rattle.xm_model.specs.Run.{IsIn};
 
 use crate::fault::NetFault;
 use crate::numbers::{Numbers, numbers_of};
+use crate::tasks::{Task, tasks_of};
 use std::alloc::Global;
 use std::marker::Model;
 use xm_colours::{Colours, allowed, infer};
@@ -22,6 +23,7 @@ pub struct Design {
     net: Net,
     colours: Colours,
     order: Order,
+    tasks: List<Task>,
     numbers: Numbers,
 }
 
@@ -34,12 +36,13 @@ impl Model for Design {
 
     ghost view = { λ d. record { net = d.net; colours = d.colours; order = d.order } };
 
-    ghost invariant = { λ d. IsKept (record { net = d.net; colours = d.colours; order = d.order }) d.numbers.oracles.items d.numbers.pairs.items d.numbers.choices };
+    ghost invariant = { λ d. IsKept (record { net = d.net; colours = d.colours; order = d.order }) d.numbers.oracles.items d.numbers.pairs.items d.numbers.choices d.tasks.items };
 }
 
 impl Design {
     ghost use Rattle.xm_design.specs.Designed.{IsColourRefused, IsDesigned, IsLoopRefused};
     ghost use Rattle.xm_design.specs.Numbers.{IsOracles, IsQueuePair};
+    ghost use Rattle.xm_design.specs.Tasks.{AreTasks};
 
     /// The design of a net, where `allow` refuses no pair of a channel and a colour and the dependence of
     /// its signals has no loop; else the first such fault. On refusal the net is dropped.
@@ -58,11 +61,13 @@ impl Design {
             Err(OrderFault::CombLoop(found)) => return Err(NetFault::CombLoop(found)),
             Err(OrderFault::OutOfMemory) => return Err(NetFault::OutOfMemory),
         };
+        let tasks = tasks_of(alloc, &net, order.signals().as_slice())?;
         let numbers = numbers_of(alloc, &net, &colours)?;
         Ok(Design {
             net,
             colours,
             order,
+            tasks,
             numbers,
         })
     }
@@ -88,6 +93,13 @@ impl Design {
         ensures { result.now ≡ self.now.order }
     {
         &self.order
+    }
+
+    /// Lends the signals in their order, each with the primitive that makes it.
+    pub fn tasks(&self) -> &[Task]
+        ensures { AreTasks self.now.net self.now.order result.now }
+    {
+        self.tasks.as_slice()
     }
 
     /// For each primitive, how many sources and sinks stand below it: the place of its choice in a row.

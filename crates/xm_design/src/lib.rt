@@ -5,10 +5,12 @@ mod design;
 mod fault;
 mod laws;
 mod numbers;
+mod tasks;
 
 pub use design::Design;
 pub use fault::NetFault;
 pub use laws::{colours_hold, fits_hold, fits_next};
+pub use tasks::Task;
 
 #[cfg(test)]
 mod tests;

@@ -1,7 +1,7 @@
-use Rattle.std.proofs.Common.{subst, ℕ, ◌<◌}
+use Rattle.std.proofs.Common.{subst}
 use Rattle.xm_colours.specs.Family.{colours_at}
 use Rattle.xm_design.proofs.Fitting.{colours_below}
-use Rattle.xm_design.specs.Designed.{Designed, IsDesigned}
+use Rattle.xm_design.specs.Designed.{IsDesigned}
 use Rattle.xm_design.proofs.design.Design.colours.Goals as goal
 
 pub returns-clause-below : goal.returns-clause-below

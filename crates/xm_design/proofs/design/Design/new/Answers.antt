@@ -6,6 +6,7 @@ invariant_of-result c = record {
   count = c.in_ok-numbers.ensures.choices;
   oracles = c.in_ok-numbers.ensures.oracles;
   pairs = c.in_ok-numbers.ensures.pairs;
+  tasks = rw (c.as_slice.ensures, c.signals.ensures) at c.in_ok-tasks.ensures;
 }
 
 pub returns-clause-design : goal.returns-clause-design
