@@ -204,6 +204,13 @@ fn goes_before(signals: &[Signal], first: Signal, second: Signal) -> bool {
     }
 }
 
+fn is_made_by(design: &Design, signal: Signal, prim: u32) -> bool {
+    let tasks = design.tasks();
+    tasks
+        .iter()
+        .any(|task| task.signal == signal && task.prim == prim)
+}
+
 #[test]
 fn a_stream_has_its_numbers(rt: HostRuntime) -> Result<(), Fail> {
     let net = stream(rt.alloc())?;
@@ -218,6 +225,9 @@ fn a_stream_has_its_numbers(rt: HostRuntime) -> Result<(), Fail> {
     ] {
         assert!(rt; signals.contains(&it));
     }
+    assert_eq!(rt; design.tasks().len(), 4);
+    assert!(rt; is_made_by(&design, Signal::Offer(1), 1));
+    assert!(rt; is_made_by(&design, Signal::Ready(1), 2));
     assert!(rt; design.oracles() == [0, 1, 1].as_slice());
     assert_eq!(rt; design.oracle_count(), 2);
     assert_eq!(rt; pair_number(&design, 1, X), Some(0));
