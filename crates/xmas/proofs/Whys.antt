@@ -76,7 +76,6 @@ excludes none {bytes = bytes} (of_tape doc it fault read design failed) is =
     cc
 
 module _ {K : Type 0} (limit : ℕ) (it : Command) (ends : Ends K) where
-
   pub why_complete : NoLoop → (bytes text : List ℕ) → ends.left ≡ Some bytes → length bytes ≤ limit → IsOutput bytes it text → (Rose ends.harmed ends.later → ⊥) → (Rose ends.sink.faults ends.sink.later → ⊥) → (r : Refusal) → IsWhy limit it ends r → status_of r ≡ 9
   why_complete none bytes text is within output no_read no_write refusal.Words why = absurd why
   why_complete none bytes text is within output no_read no_write (refusal.Document line) why = absurd (excludes none why.refused (subst (λ (x : List ℕ). IsOutput x it text) (sym (same_bytes ends.left ends.rest bytes why.bytes is why.gave.whole)) output))

@@ -179,6 +179,29 @@ fn faults_of_streams_have_their_status(rt: HostRuntime) -> Result<(), Fail> {
     Ok(())
 }
 
+/// Runs three rounds with an output that takes a whole round in one call, and fails in this call.
+fn cut_in_call(alloc: Global, call: u32) -> Result<Outcome, OutOfMemory> {
+    let words = words_of(alloc, "run")?;
+    let mut source = CleanSource::new(text_of(alloc, THREE_ROUNDS.as_bytes())?);
+    let mut fails = List::new(alloc);
+    fails.push(call)?;
+    let mut out = MemSink::new(alloc, 1_000_000, 1_000_000, fails)?;
+    let mut err = MemSink::new(alloc, 1000, 1000, List::new(alloc))?;
+    let status = plain(alloc, &words, &mut source, &mut out, &mut err);
+    Ok(Outcome { status, out, err })
+}
+
+#[test]
+fn rounds_of_1024_cycles_leave_one_by_one(rt: HostRuntime) -> Result<(), Fail> {
+    for (call, lines) in [(0, 0), (1, 1024), (2, 2048), (3, 2500)] {
+        let outcome = cut_in_call(rt.alloc(), call)?;
+        assert_eq!(rt; outcome.status, 7);
+        let ends = outcome.out.held().iter().filter(|byte| **byte == b'\n');
+        assert_eq!(rt; ends.count(), lines);
+    }
+    Ok(())
+}
+
 /// The stream's document, with spaces behind it up to so many bytes.
 fn padded(alloc: Global, count: usize) -> Result<Text, OutOfMemory> {
     let mut text = text_of(alloc, STREAM.as_bytes())?;

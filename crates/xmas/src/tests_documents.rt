@@ -42,6 +42,10 @@ pub const SWITCH: &str =
 pub const SEEDED: &str =
     "{\"version\":1,\"colours\":[\"req\"],\"net\":[{\"kind\":\"source\",\"name\":\"S\",\"out\":\"c0\",\"colours\":[\"req\"]},{\"kind\":\"queue\",\"name\":\"Q\",\"in\":\"c0\",\"out\":\"c1\",\"capacity\":1},{\"kind\":\"sink\",\"name\":\"K\",\"in\":\"c1\"}],\"tape\":{\"cycles\":1,\"seed\":0}}";
 
+/// Two rounds and a part of a third.
+pub const THREE_ROUNDS: &str =
+    "{\"version\":1,\"colours\":[\"req\"],\"net\":[{\"kind\":\"source\",\"name\":\"S\",\"out\":\"c0\",\"colours\":[\"req\"]},{\"kind\":\"queue\",\"name\":\"Q\",\"in\":\"c0\",\"out\":\"c1\",\"capacity\":1},{\"kind\":\"sink\",\"name\":\"K\",\"in\":\"c1\"}],\"tape\":{\"cycles\":2500,\"seed\":1}}";
+
 pub const REPEATED: &str =
     "{\"version\":1,\"colours\":[\"req\"],\"net\":[{\"kind\":\"source\",\"name\":\"S\",\"out\":\"c0\",\"colours\":[\"req\"]},{\"kind\":\"queue\",\"name\":\"Q\",\"in\":\"c0\",\"out\":\"c1\",\"capacity\":1},{\"kind\":\"sink\",\"name\":\"K\",\"in\":\"c1\"}],\"tape\":{\"stem\":[],\"cycle\":[\"01\",\"..\"],\"times\":2}}";
 
