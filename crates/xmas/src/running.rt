@@ -1,6 +1,6 @@
 //! A run that is written round by round.
 
-ghost use Rattle.std.specs.Prelude.{◌≡◌, ◌⊎◌, ◌*◌, ◌^◌, ◌<◌, ◌≤◌, ℕ, List as Items, Err, IfErr, OnErr, OnOk, length};
+ghost use Rattle.std.specs.Prelude.{◌≡◌, ◌⊎◌, ◌+◌, ◌*◌, ◌^◌, ◌<◌, ◌≤◌, ℕ, List as Items, Err, IfErr, OnErr, OnOk, length};
 ghost use Rattle.std.specs.Io.KnownBytes.{Appends};
 ghost use Rattle.xm_io.specs.Bytes.{AppendsFront};
 ghost use Rattle.xm_io.specs.Causes.{Rose};
@@ -26,6 +26,7 @@ const ROUND: u32 = 1024;
 fn round_end(from: u32, cycles: u32) -> u32
     requires { from < cycles }
     ensures later { from < result }
+    ensures few { result ≤ from + ROUND }
     ensures within { result ≤ cycles }
 {
     if cycles - from < ROUND {
