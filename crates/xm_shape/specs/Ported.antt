@@ -1,4 +1,4 @@
--- Inner (no public clause cites it): the code's ports, in plain lists.
+-- The code's ports, in plain lists.
 use Rattle.std.specs.Prelude.{List, Option, ◌∷◌, ◌++◌, map, option_map}
 use Rattle.xm_shape.specs.Names.{Name}
 use Rattle.std.specs.Option.{option_to_list}

@@ -1,3 +1,5 @@
+//! Shapes of documents and their first faults.
+
 use crate::channels::{channel_set, ports_of};
 use crate::draft::Draft;
 use crate::fault::DocFault;

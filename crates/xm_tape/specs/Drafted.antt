@@ -1,4 +1,4 @@
--- What the code's draft of a tape shows. (Inner: no public contract speaks of it.)
+-- What lent texts and primitives show, and the code's draft of a tape.
 use Rattle.std.specs.Prelude.{ℕ, ◌<◌, ◌^◌, List, length, map}
 use Rattle.xm_model.specs.Component.{Component, component_of}
 use Rattle.xm_model.specs.declared.parts.Primitive.{Primitive}

@@ -1,3 +1,5 @@
+//! Tapes of a source, a queue and a sink in a row, and their first faults.
+
 use super::*;
 use serde_json::Value;
 use std::alloc::Global;
@@ -64,49 +66,51 @@ fn is_answer(read: &Result<Tape, TapeFault>, expected: &Answer) -> bool {
     }
 }
 
+/// Tapes as JSON, and what reading answers.
+const CASES: [(&str, Answer); 18] = [
+    ("5", Answer::Shape("tape")),
+    ("{\"rows\":5}", Answer::Shape("tape.rows")),
+    ("{\"rows\":[\"01\",7]}", Answer::Shape("tape.rows.1")),
+    ("{\"rows\":[],\"x\":1}", Answer::Shape("tape")),
+    ("{\"stem\":[],\"times\":1}", Answer::Shape("tape.cycle")),
+    (
+        "{\"stem\":[],\"cycle\":[\"01\"],\"times\":4294967296}",
+        Answer::Shape("tape.times"),
+    ),
+    ("{}", Answer::Shape("tape.cycles")),
+    ("{\"cycles\":1}", Answer::Shape("tape.seed")),
+    (
+        "{\"cycles\":4294967296,\"seed\":0}",
+        Answer::Shape("tape.cycles"),
+    ),
+    ("{\"cycles\":10000001,\"seed\":0}", Answer::Limit(10000001)),
+    (
+        "{\"stem\":[],\"cycle\":[\"01\",\"..\"],\"times\":5000001}",
+        Answer::Limit(10000002),
+    ),
+    ("{\"rows\":[\"0\"]}", Answer::Length(0, 1)),
+    ("{\"rows\":[\"01\",\"1.\"]}", Answer::Mark(1, 0)),
+    ("{\"rows\":[\"0x\"]}", Answer::Mark(0, 1)),
+    (
+        "{\"stem\":[\"01\"],\"cycle\":[\"0\"],\"times\":0}",
+        Answer::Length(1, 1),
+    ),
+    ("{\"rows\":[\"01\",\"..\"]}", Answer::Read(2, 0, 0, 2)),
+    (
+        "{\"stem\":[],\"cycle\":[\"01\",\"..\"],\"times\":2}",
+        Answer::Read(0, 2, 2, 4),
+    ),
+    ("{\"cycles\":1,\"seed\":0}", Answer::Read(1, 0, 0, 1)),
+];
+
 #[test]
 fn the_first_fault_is_told(rt: HostRuntime) -> Result<(), Fail> {
     let alloc = rt.alloc();
-    let cases = [
-        ("5", Answer::Shape("tape")),
-        ("{\"rows\":5}", Answer::Shape("tape.rows")),
-        ("{\"rows\":[\"01\",7]}", Answer::Shape("tape.rows.1")),
-        ("{\"rows\":[],\"x\":1}", Answer::Shape("tape")),
-        ("{\"stem\":[],\"times\":1}", Answer::Shape("tape.cycle")),
-        (
-            "{\"stem\":[],\"cycle\":[\"01\"],\"times\":4294967296}",
-            Answer::Shape("tape.times"),
-        ),
-        ("{}", Answer::Shape("tape.cycles")),
-        ("{\"cycles\":1}", Answer::Shape("tape.seed")),
-        (
-            "{\"cycles\":4294967296,\"seed\":0}",
-            Answer::Shape("tape.cycles"),
-        ),
-        ("{\"cycles\":10000001,\"seed\":0}", Answer::Limit(10000001)),
-        (
-            "{\"stem\":[],\"cycle\":[\"01\",\"..\"],\"times\":5000001}",
-            Answer::Limit(10000002),
-        ),
-        ("{\"rows\":[\"0\"]}", Answer::Length(0, 1)),
-        ("{\"rows\":[\"01\",\"1.\"]}", Answer::Mark(1, 0)),
-        ("{\"rows\":[\"0x\"]}", Answer::Mark(0, 1)),
-        (
-            "{\"stem\":[\"01\"],\"cycle\":[\"0\"],\"times\":0}",
-            Answer::Length(1, 1),
-        ),
-        ("{\"rows\":[\"01\",\"..\"]}", Answer::Read(2, 0, 0, 2)),
-        (
-            "{\"stem\":[],\"cycle\":[\"01\",\"..\"],\"times\":2}",
-            Answer::Read(0, 2, 2, 4),
-        ),
-        ("{\"cycles\":1,\"seed\":0}", Answer::Read(1, 0, 0, 1)),
-    ];
     let Some(design) = design_of_row(alloc) else {
         assert!(rt; false);
         return Ok(());
     };
-    for (text, expected) in &cases {
+    for (text, expected) in &CASES {
         match Value::from_str(alloc, text) {
             Ok(value) => {
                 let read = read_tape(alloc, &design, Some(&value));

@@ -1,4 +1,4 @@
--- Inner: one more round of a run, for callers that make its text round by round.
+-- One more round of a run, for callers that make its text round by round.
 use Rattle.std.proofs.Common.{◌≡◌, ◌≤◌, ◌+◌, ◌-◌, ◌++◌, ◌∙◌, ℕ, List, ap, ap₂, arith, append_assoc, sym, zero-add}
 use Rattle.xm_model.specs.Component.{Content}
 use Rattle.xm_model.specs.Naming.{Naming}

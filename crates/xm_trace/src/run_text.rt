@@ -67,8 +67,8 @@ impl RunText {
         })
     }
 
-    /// The lines of the cycles that follow, one line for each, in time that is linear in the cycles, the
-    /// moves and the bytes of the lines. A refusal leaves the text as it was.
+    /// The lines of the cycles that follow, one line for each, in time that is linear in the channels, the
+    /// cycles, the moves and the bytes of the lines. A refusal leaves the text as it was.
     pub fn add(&mut self, alloc: Global, names: &Names, part: &Trace) -> Result<Text, OutOfMemory>
         requires named { IsNamedBy self.old (naming_of names.now) }
         requires follows { FollowsSome self.old part.now.cycles part.now.moves.items }

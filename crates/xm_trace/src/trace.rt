@@ -62,8 +62,9 @@ fn note_moves(moves: &mut List<Move>, t: u32, wires: &[Wire])
 }
 
 /// The moves of the cycles from `from` to before `to`, and the state past them. A cycle takes time that is
-/// linear in the primitives and channels, and no memory: room for one move on each channel in each cycle,
-/// 12 bytes for one, and for one frame is taken first, so a refusal leaves the state.
+/// linear in the primitives, the channels and the packets of queues, and no memory: room for one move on
+/// each channel in each cycle, 12 bytes for one, and for one frame is taken first, so a refusal leaves the
+/// state.
 pub fn run_round(
     alloc: Global,
     design: &Design,

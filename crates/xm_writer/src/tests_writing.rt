@@ -1,3 +1,5 @@
+//! The canonical text of a document.
+
 use super::*;
 use std::alloc::Global;
 use std::test::*;

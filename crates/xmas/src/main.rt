@@ -1,5 +1,5 @@
-//! The program `xmas`: a verifier and simulator of xMAS networks. It reads standard input, writes standard
-//! output, and says why it refuses on standard error.
+//! The program `xmas`: it checks and runs xMAS networks. It reads standard input, writes standard output, and
+//! says why it refuses on standard error.
 #![tactic(auto)]
 
 mod answer;

@@ -61,67 +61,69 @@ fn is_answer(outcome: &Outcome, status: u8, out: &[u8], err: &[u8]) -> bool {
     outcome.status == status && outcome.out.held() == out && outcome.err.held() == err
 }
 
+/// Words, a document, and the output.
+const OUTPUTS: [(&str, &str, &str); 12] = [
+    (
+        "run",
+        STREAM,
+        "0 c0:req\n1 c1:req\nsum c0.req 1\nsum c1.req 1\nend 2\n",
+    ),
+    (
+        "run",
+        EAGER,
+        "0\n1 c0:x\n2\n3 c0:y\nsum c0.x 1\nsum c0.y 1\nend 4\n",
+    ),
+    (
+        "run",
+        MERGE,
+        "0\n1\n2 c1:y c2:y\n3 c0:x c2:x\nsum c0.x 1\nsum c1.y 1\nsum c2.x 1\nsum c2.y 1\nend 4\n",
+    ),
+    (
+        "run",
+        FREE_SINK,
+        "0 c0:req c1:req c2:req\nsum c0.req 1\nsum c1.req 1\nsum c2.req 1\nend 1\n",
+    ),
+    (
+        "run",
+        FORK_JOIN,
+        "0 c0:req c1:req c2:req\n1 c3:req c4:req c5:req\nsum c0.req 1\nsum c1.req 1\nsum c2.req 1\nsum c3.req 1\nsum c4.req 1\nsum c5.req 1\nend 2\n",
+    ),
+    (
+        "run",
+        RING,
+        "0 c0:req c5:req c1:req\n1 c0:req c5:req c1:req c2:req c3:req c4:req\nsum c0.req 2\nsum c5.req 2\nsum c1.req 2\nsum c2.req 1\nsum c3.req 1\nsum c4.req 1\nend 2\n",
+    ),
+    (
+        "run",
+        OTHER_COLOUR,
+        "0 c0:x c1:y\nsum c0.x 1\nsum c1.y 1\nend 1\n",
+    ),
+    ("run", SEEDED, "0 c0:req\nsum c0.req 1\nend 1\n"),
+    (
+        "run",
+        REPEATED,
+        "0 c0:req\n1 c1:req\n2 c0:req\n3 c1:req\nsum c0.req 2\nsum c1.req 2\nend 4\n",
+    ),
+    (
+        "check",
+        SWITCH,
+        "primitives 4\nchannels 3\noracles 3\npairs 2\nc0 req\nc1\nc2 req\nend\n",
+    ),
+    (
+        "check",
+        OTHER_COLOUR,
+        "primitives 3\nchannels 2\noracles 2\npairs 3\nc0 x\nc1 x y\nend\n",
+    ),
+    (
+        "check",
+        TAPE_OF_NUMBER,
+        "primitives 3\nchannels 2\noracles 2\npairs 2\nc0 req\nc1 req\nend\n",
+    ),
+];
+
 #[test]
 fn outputs_are_printed(rt: HostRuntime) -> Result<(), Fail> {
-    let rows = [
-        (
-            "run",
-            STREAM,
-            "0 c0:req\n1 c1:req\nsum c0.req 1\nsum c1.req 1\nend 2\n",
-        ),
-        (
-            "run",
-            EAGER,
-            "0\n1 c0:x\n2\n3 c0:y\nsum c0.x 1\nsum c0.y 1\nend 4\n",
-        ),
-        (
-            "run",
-            MERGE,
-            "0\n1\n2 c1:y c2:y\n3 c0:x c2:x\nsum c0.x 1\nsum c1.y 1\nsum c2.x 1\nsum c2.y 1\nend 4\n",
-        ),
-        (
-            "run",
-            FREE_SINK,
-            "0 c0:req c1:req c2:req\nsum c0.req 1\nsum c1.req 1\nsum c2.req 1\nend 1\n",
-        ),
-        (
-            "run",
-            FORK_JOIN,
-            "0 c0:req c1:req c2:req\n1 c3:req c4:req c5:req\nsum c0.req 1\nsum c1.req 1\nsum c2.req 1\nsum c3.req 1\nsum c4.req 1\nsum c5.req 1\nend 2\n",
-        ),
-        (
-            "run",
-            RING,
-            "0 c0:req c5:req c1:req\n1 c0:req c5:req c1:req c2:req c3:req c4:req\nsum c0.req 2\nsum c5.req 2\nsum c1.req 2\nsum c2.req 1\nsum c3.req 1\nsum c4.req 1\nend 2\n",
-        ),
-        (
-            "run",
-            OTHER_COLOUR,
-            "0 c0:x c1:y\nsum c0.x 1\nsum c1.y 1\nend 1\n",
-        ),
-        ("run", SEEDED, "0 c0:req\nsum c0.req 1\nend 1\n"),
-        (
-            "run",
-            REPEATED,
-            "0 c0:req\n1 c1:req\n2 c0:req\n3 c1:req\nsum c0.req 2\nsum c1.req 2\nend 4\n",
-        ),
-        (
-            "check",
-            SWITCH,
-            "primitives 4\nchannels 3\noracles 3\npairs 2\nc0 req\nc1\nc2 req\nend\n",
-        ),
-        (
-            "check",
-            OTHER_COLOUR,
-            "primitives 3\nchannels 2\noracles 2\npairs 3\nc0 x\nc1 x y\nend\n",
-        ),
-        (
-            "check",
-            TAPE_OF_NUMBER,
-            "primitives 3\nchannels 2\noracles 2\npairs 2\nc0 req\nc1 req\nend\n",
-        ),
-    ];
-    for (line, document, text) in rows.iter() {
+    for (line, document, text) in OUTPUTS.iter() {
         let outcome = ran(rt.alloc(), line, document, false, false)?;
         assert!(rt; is_answer(&outcome, 0, text.as_bytes(), b""));
     }
