@@ -1,7 +1,7 @@
 //! A list over std's `Vec` whose contracts tell its items and its room.
 
 ghost use Rattle.std.specs.Borrow.{sem};
-ghost use Rattle.std.specs.Prelude.{◌≡◌, ◌+◌, ◌<◌, ◌≤◌, [], ◌∷◌, ◌++◌, ◌↔◌, length, take, remove, slice_get, IsTrue, IsOk, OnOk, OnErr};
+ghost use Rattle.std.specs.Prelude.{◌≡◌, ◌+◌, ◌<◌, ◌≤◌, [], ◌∷◌, ◌++◌, ◌↔◌, length, take, remove, replicate, slice_get, IsTrue, IsOk, IfOk, OnOk, OnErr};
 
 use crate::memory::OutOfMemory;
 use std::alloc::Global;
@@ -116,5 +116,16 @@ impl<T: Drop> List<T> {
         ensures room { self.new.room ≡ self.old.room }
     {
         self.held.truncate(n as usize);
+    }
+}
+
+impl<T: Copy> List<T> {
+    /// A list of `count` items, each equal to `value`.
+    pub fn filled(alloc: Global, value: T, count: u32) -> Result<List<T>, OutOfMemory>
+        ensures { IfOk result (λ list. list.items ≡ replicate count value) }
+    {
+        let mut held = Vec::new(alloc);
+        held.resize(count as usize, value)?;
+        Ok(List { held })
     }
 }

@@ -4,6 +4,7 @@ ghost use Rattle.std.specs.Prelude.{◌≡◌, ℕ, ◌+◌, ◌<◌, ◌≤◌,
 ghost use Rattle.std.specs.Option.{option_to_list};
 ghost use Rattle.xm_model.specs.Component.{component_of};
 ghost use Rattle.xm_model.specs.Net.{inputs, outputs, ports, initiators, targets, IsWellWired, IsFirstFault};
+ghost use Rattle.xm_model.specs.Sizes.{most_channels, most_primitives};
 ghost use Rattle.xm_model.specs.Seen.{IsFirstSeenFault, IsSeen, fault_seen, ports_by, seen_fault, with_end};
 
 use crate::list::List;
@@ -106,7 +107,7 @@ fn ports_of(prim: &Prim, outgoing: bool) -> (Option<u32>, Option<u32>)
 
 /// Meets each port.
 fn count(seen: &mut [Seen], prims: &[Prim], outgoing: bool)
-    requires few { length prims.now ≤ 4096 }
+    requires few { length prims.now ≤ most_primitives }
     requires fit { All (λ m. All (λ c. c < length seen.old) (ports_by outgoing m)) (map component_of prims.now) }
     requires fresh { IsSeen [] seen.old }
     ensures { IsSeen (ports (ports_by outgoing) (map component_of prims.now) 0) seen.new }
@@ -133,7 +134,7 @@ fn fault_of(c: u32, initiator: &Seen, target: &Seen) -> Option<WiringFault>
 
 /// The first fault of two counts.
 fn first_fault(starts: &[Seen], ends: &[Seen]) -> Option<WiringFault>
-    requires few { length starts.now ≤ 8192 }
+    requires few { length starts.now ≤ most_channels }
     requires same { length ends.now ≡ length starts.now }
     ensures none { IfNone result ((c : ℕ) → c < length starts.now → fault_seen starts.now ends.now c ≡ None) }
     ensures first { IfSome result (IsFirstSeenFault starts.now ends.now) }
@@ -147,21 +148,16 @@ fn first_fault(starts: &[Seen], ends: &[Seen]) -> Option<WiringFault>
     None
 }
 
-/// A count of `n` channels that has met no port.
-fn unseen(alloc: Global, n: u32) -> Result<List<Seen>, OutOfMemory>
-    ensures len { IfOk result (λ l. length l.items ≡ n) }
+/// A count of so many channels that has met no port.
+fn unseen(alloc: Global, channels: u32) -> Result<List<Seen>, OutOfMemory>
+    ensures len { IfOk result (λ l. length l.items ≡ channels) }
     ensures fresh { IfOk result (λ l. IsSeen [] l.items) }
 {
-    let mut all = List::new(alloc);
-    all.reserve(n)?;
-    for k in 0..n {
-        let _count = k;
-        all.push(Seen {
-            first: None,
-            second: None,
-        })?;
-    }
-    Ok(all)
+    let none = Seen {
+        first: None,
+        second: None,
+    };
+    List::filled(alloc, none, channels)
 }
 
 /// The count of all output ports, or of all input ports.
@@ -171,7 +167,7 @@ fn counted(
     prims: &[Prim],
     outgoing: bool,
 ) -> Result<List<Seen>, OutOfMemory>
-    requires few { length prims.now ≤ 4096 }
+    requires few { length prims.now ≤ most_primitives }
     requires fit { All (λ m. All (λ c. c < channels) (ports_by outgoing m)) (map component_of prims.now) }
     ensures len { IfOk result (λ l. length l.items ≡ channels) }
     ensures seen { IfOk result (λ l. IsSeen (ports (ports_by outgoing) (map component_of prims.now) 0) l.items) }
@@ -253,6 +249,14 @@ impl Net {
         ensures { slice_get self.now.prims p ≡ Some (component_of result.now) }
     {
         &self.prims.as_slice()[p as usize]
+    }
+
+    /// A net keeps its limits and is well wired. The call does nothing, and its caller has that fact.
+    pub fn is_net(&self)
+        ensures { IsNet self.now }
+    {
+        // The invariant is known where a field has been read.
+        let _read = self.channels;
     }
 
     /// How many channels there are; they are numbered from 0.
