@@ -1,28 +1,39 @@
--- Reading a list that was appended to, filled or written.
+-- Lemmas: what stands in a list that was appended to, filled or written.
 use Rattle.std.proofs.Common.{◌≡◌, ◌≢◌, ℕ, zero, suc, ◌+◌, ◌<◌, ◌⊎◌, List, [], ◌∷◌, ◌++◌, Some, length, replicate, set, slice_get, refl, ap, inl, inr, arith}
 
-pub get-append_left : {X : Type 0} (xs ys : List X) (k : ℕ) (x : X) → slice_get xs k ≡ Some x → slice_get (xs ++ ys) k ≡ Some x
+pub get-append_left : {X : Type 0} (xs ys : List X) (k : ℕ) (x : X) → slice_get xs k ≡ Some x →
+    slice_get (xs ++ ys) k ≡ Some x
 get-append_left [] ys k x e = absurd cc
 get-append_left (y ∷ xs) ys zero x e = e
 get-append_left (y ∷ xs) ys (suc k) x e = get-append_left xs ys k x e
 
-pub get-append_right : {X : Type 0} (xs ys : List X) (k j : ℕ) → k ≡ length xs + j → slice_get (xs ++ ys) k ≡ slice_get ys j
+pub get-append_right : {X : Type 0} (xs ys : List X) (k j : ℕ) → k ≡ length xs + j →
+    slice_get (xs ++ ys) k ≡ slice_get ys j
 get-append_right [] ys k j e = ap (slice_get ys) (let same : k ≡ j = omega arith in same)
 get-append_right (y ∷ xs) ys zero j e = absurd (omega arith)
 get-append_right (y ∷ xs) ys (suc k) j e = get-append_right xs ys k j (omega arith)
 
+pub get-append_within : {X : Type 0} (xs ys : List X) (k : ℕ) → k < length xs → slice_get (xs ++ ys) k ≡ slice_get xs k
+get-append_within [] ys k h = absurd (omega arith)
+get-append_within (x ∷ xs) ys zero h = refl
+get-append_within (x ∷ xs) ys (suc k) h = get-append_within xs ys k (omega arith)
+
 -- an item of the one or of the other
-pub append_cases : {X : Type 0} (xs ys : List X) (k : ℕ) (x : X) → slice_get (xs ++ ys) k ≡ Some x → (slice_get xs k ≡ Some x) ⊎ ((j : ℕ) × (k ≡ length xs + j) × (slice_get ys j ≡ Some x))
+pub append_cases : {X : Type 0} (xs ys : List X) (k : ℕ) (x : X) → slice_get (xs ++ ys) k ≡ Some x →
+    (slice_get xs k ≡ Some x) ⊎ ((j : ℕ) × (k ≡ length xs + j) × (slice_get ys j ≡ Some x))
 append_cases [] ys k x e = inr (k, (omega arith), e)
 append_cases (y ∷ xs) ys zero x e = inl e
-append_cases (y ∷ xs) ys (suc k) x e = elim (append_cases xs ys k x e) [ inl h ↦ inl h | inr w ↦ inr (w.0, (let at = w.1 in omega arith), w.2) ]
+append_cases (y ∷ xs) ys (suc k) x e =
+    elim (append_cases xs ys k x e) [ inl h ↦ inl h | inr w ↦ inr (w.0, (let at = w.1 in omega arith), w.2) ]
 
 -- an item of the list, or the one that was pushed
-pub push_cases : {X : Type 0} (xs : List X) (y : X) (k : ℕ) (x : X) → slice_get (xs ++ y ∷ []) k ≡ Some x → (slice_get xs k ≡ Some x) ⊎ ((k ≡ length xs) × (y ≡ x))
+pub push_cases : {X : Type 0} (xs : List X) (y : X) (k : ℕ) (x : X) → slice_get (xs ++ y ∷ []) k ≡ Some x →
+    (slice_get xs k ≡ Some x) ⊎ ((k ≡ length xs) × (y ≡ x))
 push_cases [] y zero x e = inr (refl, cc)
 push_cases [] y (suc k) x e = absurd cc
 push_cases (z ∷ xs) y zero x e = inl e
-push_cases (z ∷ xs) y (suc k) x e = elim (push_cases xs y k x e) [ inl h ↦ inl h | inr w ↦ inr ((let at = w.0 in omega arith), w.1) ]
+push_cases (z ∷ xs) y (suc k) x e =
+    elim (push_cases xs y k x e) [ inl h ↦ inl h | inr w ↦ inr ((let at = w.0 in omega arith), w.1) ]
 
 pub get-push_last : {X : Type 0} (xs : List X) (y : X) → slice_get (xs ++ y ∷ []) (length xs) ≡ Some y
 get-push_last xs y = get-append_right xs (y ∷ []) (length xs) 0 (omega arith)
