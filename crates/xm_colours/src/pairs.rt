@@ -1,4 +1,4 @@
-//! What a primitive makes of a colour that comes in.
+//! Pairs of a channel and a colour, and those that a primitive sends on for one that comes in.
 
 ghost use Rattle.std.specs.Prelude.{◌≡◌, ◌++◌};
 ghost use Rattle.std.specs.Option.{option_to_list};
@@ -31,8 +31,8 @@ fn at(channel: u32, colour: u8) -> Option<Pair>
     Some(Pair { channel, colour })
 }
 
-/// The pairs that the primitive makes of `it`, which comes in on one of its inputs.
-pub fn images(prim: &Prim, it: Pair) -> (Option<Pair>, Option<Pair>)
+/// The pairs that the primitive sends on for `it`, which comes in on one of its inputs.
+pub fn sent(prim: &Prim, it: Pair) -> (Option<Pair>, Option<Pair>)
     requires { Covers (component_of prim.now) it.colour }
     ensures { option_to_list result.0 ++ option_to_list result.1 ≡ sent (component_of prim.now) it }
 {

@@ -1,5 +1,5 @@
 use Rattle.xm_colours.specs.Spreading.{HasGiven, IsSpread}
-use Rattle.xm_colours.proofs.spread.Spread.seed_all.Given as goal
+use Rattle.xm_colours.proofs.spread.Spread.add_each_given.Given as goal
 
 abbrev pub invariant-loop-prim : goal.invariant-loop-prim
 invariant-loop-prim l = record {
