@@ -2,7 +2,7 @@
 use Rattle.std.proofs.Common.{◌≡◌, arith, ℕ, suc, Option, None, ◌∙◌, subst}
 use Rattle.xm_persist.proofs.TwoCycles.{fork_a_stays, fork_b_stays, fork_in_stays, function_in_stays, function_out_stays, join_a_stays, join_b_stays, join_out_stays, merge_a_stays, merge_b_stays, merge_out_stays, queue_in_stays, queue_out_stays, switch_a_stays, switch_b_stays, switch_in_stays}
 use Rattle.xm_design.specs.Offers.{sink_again, source_again}
-use Rattle.xm_persist.specs.Rights.{Granted, GrantsHold, GrantsHoldOfRuns, Initiator, Kept, Right, Target, fork_a, fork_b, fork_in, function_in, function_out, join_a, join_b, join_out, merge_a, merge_b, merge_out, queue_in, queue_out, sink_in, source_out, switch_a, switch_b, switch_in}
+use Rattle.xm_persist.specs.Rights.{Granted, GrantsHold, GrantsHoldOfRuns, Initiator, HoldsOver, Right, Target, fork_a, fork_b, fork_in, function_in, function_out, join_a, join_b, join_out, merge_a, merge_b, merge_out, queue_in, queue_out, sink_in, source_out, switch_a, switch_b, switch_in}
 use Rattle.xm_model.specs.Component.{Component, Content}
 use Rattle.xm_model.specs.Frame.{Equation, IsFrame}
 use Rattle.xm_model.specs.Net.{HasPrim, Network}
@@ -17,7 +17,7 @@ module _ (net : Network) (s : ℕ → Content) (w v : ℕ → Choice) (φ ψ : S
       let P : Option Component → Type 0 = λ o. Equation p (next_at o (s i) φ) (v i) ψ in
       subst P has (then i p has)
 
-  pub right_kept : (right : Right) → Granted net right → Kept right φ ψ
+  pub right_kept : (right : Right) → Granted net right → HoldsOver right φ ψ
   right_kept (Initiator c) (source_out i out colours mode has kept) = λ d offered stuck.
       (later i _ has).offer_out ∙ rw (offered, stuck) (source_again mode colours None None (offer_chosen (v i)) d kept)
   right_kept (Target c) (sink_in i input mode has kept) = λ is_ready quiet.
