@@ -1,7 +1,7 @@
 use Rattle.std.proofs.Common.{ℕ, length, ap, arith, length-append, length-take}
 use Rattle.std.proofs.lemmas.Result.{err_from_is_err_and}
 use Rattle.xm_io.proofs.Streams.{Consumes-then}
-use Rattle.xm_io.proofs.whole.read_all.Goals as goal
+use Rattle.xm_io.proofs.transfer.read_all.Goals as goal
 
 pub returns-then-count-limit-clause-too_long : goal.returns-then-count-limit-clause-too_long
 returns-then-count-limit-clause-too_long g c = λ _. (

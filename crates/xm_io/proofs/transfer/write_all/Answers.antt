@@ -1,7 +1,7 @@
 use Rattle.std.proofs.Common.{arith}
 use Rattle.std.proofs.lemmas.Grind.{common_steps}
 use Rattle.xm_io.proofs.Streams.{write_goes_on}
-use Rattle.xm_io.proofs.whole.write_all.Goals as goal
+use Rattle.xm_io.proofs.transfer.write_all.Goals as goal
 
 pub loop-done-preserved : goal.loop-done-preserved
 loop-done-preserved g c = record {

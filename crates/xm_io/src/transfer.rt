@@ -1,8 +1,8 @@
 //! Reading a source to its end, and writing all of some bytes into a sink.
 
-ghost use Rattle.std.specs.Prelude.{◌≡◌, ◌≤◌, length, IfOk, OnOk, OnErr, Err};
+ghost use Rattle.std.specs.Prelude.{◌≡◌, ◌≢◌, ◌≤◌, length, IfOk, OnOk, OnErr, Err};
 ghost use Rattle.std.specs.Io.KnownBytes.{Appends};
-ghost use Rattle.xm_io.specs.Causes.{Rose, HasCause};
+ghost use Rattle.xm_io.specs.Faults.{Rose, HasCause};
 ghost use Rattle.xm_io.specs.Bytes.{ReadsWhole, TakesFront, TakesAtMost, TakesMoreThan, AppendsFront};
 
 use crate::{Failed, Sink, Source};
@@ -22,7 +22,7 @@ pub enum ReadFault {
 
 impl From<OutOfMemory> for ReadFault {
     ghost use Rattle.std.specs.Prelude.{◌≡◌};
-    ghost use Rattle.xm_io.specs.declared.whole.ReadFault.TheVariants.{OutOfMemory};
+    ghost use Rattle.xm_io.specs.declared.transfer.ReadFault.TheVariants.{OutOfMemory};
 
     ghost from_gives = { λ _ fault. fault ≡ OutOfMemory };
 
@@ -35,7 +35,7 @@ impl From<OutOfMemory> for ReadFault {
 pub fn read_all<S: Source>(alloc: Global, source: &mut S, limit: u32) -> Result<Text, ReadFault>
     ensures whole { IfOk result (λ text. ReadsWhole (S.left source.old) (S.left source.new) text.items) }
     ensures within { IfOk result (λ text. length text.items ≤ limit) }
-    ensures unharmed { OnOk result (S.faults source.new ≡ S.faults source.old) }
+    ensures unharmed { result ≢ Err ReadFault.Failed → S.faults source.new ≡ S.faults source.old }
     ensures later { S.faults source.old ≤ S.faults source.new }
     ensures failed { result ≡ Err ReadFault.Failed → Rose (S.faults source.old) (S.faults source.new) }
     ensures failed_within { result ≡ Err ReadFault.Failed
