@@ -14,6 +14,7 @@ use Rattle.xm_netlist.specs.Reading.{document_in}
 use Rattle.xm_report.specs.Lines.{colour_line, document_line, loop_line, tape_line}
 use Rattle.xm_report.specs.Seen.{document_fault, tape_fault}
 use Rattle.xm_tape.specs.Fault as tape
+use Rattle.xm_tape.specs.Gives as reading
 use Rattle.xm_tape.specs.Reading.{tape_in}
 use Rattle.xm_tape.specs.declared.fault.TapeFault.{TapeFault}
 use Rattle.xm_tape.specs.declared.fault.TapeFault.TheVariants as tape_faults
@@ -73,7 +74,7 @@ net_fault r net allow net_faults.OutOfMemory is refused looped = tt
 abbrev pub TapeLines : TapeFault → List ℕ → Type 0
 TapeLines fault line = (it : tape.Fault) → tape_fault fault ≡ Some it → line ≡ tape_line it
 
-pub tape_refused : (bytes line : List ℕ) (doc : Doc) (it : Designed) (fault : TapeFault) → document_in bytes ≡ Ok doc → IsDesignOf doc it → tape.Fails fault (tape_in doc.net doc.tape) → TapeLines fault line → is_want_of_tape fault ≡ false → Refuses bytes commands.Run 5 line
+pub tape_refused : (bytes line : List ℕ) (doc : Doc) (it : Designed) (fault : TapeFault) → document_in bytes ≡ Ok doc → IsDesignOf doc it → reading.Fails fault (tape_in doc.net doc.tape) → TapeLines fault line → is_want_of_tape fault ≡ false → Refuses bytes commands.Run 5 line
 tape_refused bytes line doc it (tape_faults.TapeShape path) read design fails lines some = subst (Refuses bytes commands.Run 5) (sym (lines _ refl)) (of_tape doc it _ read design fails)
 tape_refused bytes line doc it (tape_faults.TapeLimit count) read design fails lines some = subst (Refuses bytes commands.Run 5) (sym (lines _ refl)) (of_tape doc it _ read design fails)
 tape_refused bytes line doc it (tape_faults.RowLength row count) read design fails lines some = subst (Refuses bytes commands.Run 5) (sym (lines _ refl)) (of_tape doc it _ read design fails)
