@@ -1,11 +1,11 @@
--- The first fault of a net's wiring, as the step of reading finds it.
+-- Lemmas: the first fault of a net's wiring, as the step of reading finds it.
 use Rattle.std.proofs.Common.{◌≡◌, ℕ, zero, suc, ◌+◌, ◌<◌, List, Some, None, Ok, Err, refl, subst, arith}
 use Rattle.xm_model.specs.Component.{Component}
 use Rattle.xm_model.specs.Naming.{Naming}
 use Rattle.xm_model.specs.Net.{IsFirstFault, IsWellWired, IsWiredAt, Network, fault_at}
 use Rattle.xm_model.specs.declared.parts.WiringFault.{WiringFault}
 use Rattle.xm_shape.specs.Fault.{wiring}
-use Rattle.xm_netlist.specs.Numbered.{wired, wiring_from}
+use Rattle.xm_netlist.specs.Numbered.{check_wiring, wiring_from}
 
 no_fault : (prims : List Component) (c : ℕ) → IsWiredAt prims c → fault_at prims c ≡ None
 no_fault prims c is = rw (is.initiator.1, is.target.1) refl
@@ -37,10 +37,10 @@ first_found net fault first =
     (λ j lt. subst (λ (k : ℕ). fault_at net.prims k ≡ None) (omega arith) (no_fault net.prims j (first.wired_below j lt)))
     (subst (λ (k : ℕ). fault_at net.prims k ≡ Some fault) (omega arith) first.found)
 
-pub is_wired : (net : Network) (names : Naming) → IsWellWired net → wired net names ≡ Ok tt
-unfolding wired
+pub is_wired : (net : Network) (names : Naming) → IsWellWired net → check_wiring net names ≡ Ok tt
+unfolding check_wiring
 is_wired net names is = rw (well_wired net is) refl
 
-pub not_wired : (net : Network) (names : Naming) (fault : WiringFault) → IsFirstFault net fault → wired net names ≡ Err (wiring fault names)
-unfolding wired
+pub not_wired : (net : Network) (names : Naming) (fault : WiringFault) → IsFirstFault net fault → check_wiring net names ≡ Err (wiring fault names)
+unfolding check_wiring
 not_wired net names fault first = rw (first_found net fault first) refl

@@ -1,4 +1,4 @@
--- The bytes as JSON, from what the reader of JSON says.
+-- Lemmas: the bytes as JSON, from what the reader of JSON says.
 use Rattle.std.proofs.Common.{◌≡◌, ℕ, true, false, List, Some, None, Ok, Err, refl}
 use Rattle.std.specs.Str.{is_utf8, IsUtf8}
 use Rattle.std.proofs.lemmas.Str.{is_utf8-from_IsUtf8, IsUtf8-from_is_utf8}

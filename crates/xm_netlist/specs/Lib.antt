@@ -1,3 +1,5 @@
+pub mod CheckSteps
+pub mod Checks
 pub mod Doc
 pub mod Documented
 pub mod FirstFault
@@ -7,6 +9,4 @@ pub mod Making
 pub mod Numbered
 pub mod Placed
 pub mod Reading
-pub mod Tested
-pub mod Tests
 pub mod Valid

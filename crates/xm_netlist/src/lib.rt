@@ -1,4 +1,4 @@
-//! Documents, read exactly: from the bytes of a JSON text, or from a draft of names, to a net with the names
+//! Documents, read exactly: from the bytes of a JSON text, or from a net by its names, to a net with the names
 //! of what it numbers, or to the first fault.
 #![tactic(auto)]
 

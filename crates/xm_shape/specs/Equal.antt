@@ -12,4 +12,6 @@ pub same_names : (a b : Name) → bytes_eq a b ≡ true → a ≡ b
 same_names a b e = (bytes_eq-Decides a b).0 e
 
 pub swapped : (a b : Name) → bytes_eq a b ≡ false → bytes_eq b a ≡ false
-swapped a b e = false_from_ne_true (bytes_eq b a) (λ t. let same : b ≡ a = same_names b a t in true≢false (sym (same_bytes a) ∙ (rw same at e)))
+swapped a b e =
+    false_from_ne_true (bytes_eq b a) (λ t. let same : b
+    ≡ a = same_names b a t in true≢false (sym (same_bytes a) ∙ (rw same at e)))

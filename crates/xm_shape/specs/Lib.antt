@@ -1,12 +1,11 @@
-pub mod Draft
-pub mod Drafted
 pub mod Equal
-pub mod Failing
 pub mod Fault
 pub mod Gives
-pub mod Holding
 pub mod Kinds
+pub mod NamedNet
 pub mod Names
-pub mod Ported
+pub mod PortViews
 pub mod Shape
 pub mod Uses
+pub mod Versions
+pub mod Views

@@ -1,21 +1,21 @@
 //! Shapes of documents and their first faults.
 
 use crate::channels::{channel_set, ports_of};
-use crate::draft::Draft;
 use crate::fault::DocFault;
-use crate::path::{member_text, path_text, place_text};
-use crate::shape::draft_of;
+use crate::named_net::NamedNet;
+use crate::shape::named_net_of;
 use serde_json::Value;
 use std::alloc::Global;
 use std::test::Fail;
+use xm_json::{member_text, place_text};
 
 /// One primitive of each kind.
 const EIGHT_KINDS: &str =
     "{\"version\":2,\"colours\":[\"x\",\"y\"],\"net\":[{\"kind\":\"source\",\"name\":\"S\",\"out\":\"c\",\"colours\":[\"x\"],\"mode\":\"eager\"},{\"kind\":\"queue\",\"name\":\"Q\",\"in\":\"c\",\"out\":\"d\",\"capacity\":1,\"initial\":[\"x\"]},{\"kind\":\"function\",\"name\":\"F\",\"in\":\"d\",\"out\":\"e\",\"map\":{}},{\"kind\":\"fork\",\"name\":\"O\",\"in\":\"e\",\"a\":\"f\",\"b\":\"g\",\"map_a\":{\"x\":\"y\"}},{\"kind\":\"join\",\"name\":\"J\",\"a\":\"f\",\"b\":\"g\",\"out\":\"h\",\"pass\":\"a\"},{\"kind\":\"switch\",\"name\":\"W\",\"in\":\"h\",\"a\":\"i\",\"b\":\"j\",\"to_a\":[\"x\"]},{\"kind\":\"merge\",\"name\":\"M\",\"a\":\"i\",\"b\":\"j\",\"out\":\"k\"},{\"kind\":\"sink\",\"name\":\"K\",\"in\":\"k\",\"mode\":\"free\"}],\"allow\":{\"c\":[\"x\"]},\"tape\":{\"rows\":[1,-2]}}";
 
-fn draft_in_text(alloc: Global, text: &str) -> Result<Draft, DocFault> {
+fn draft_in_text(alloc: Global, text: &str) -> Result<NamedNet, DocFault> {
     match Value::from_slice(alloc, text.as_bytes()) {
-        Ok(root) => draft_of(alloc, &root),
+        Ok(root) => named_net_of(alloc, &root),
         Err(_) => Err(DocFault::NotJson),
     }
 }
@@ -39,8 +39,8 @@ fn each_kind_is_read(rt: HostRuntime) -> Result<(), Fail> {
     match draft_in_text(rt.alloc(), EIGHT_KINDS) {
         Ok(draft) => {
             assert_eq!(rt; draft.colours.len(), 2);
-            assert_eq!(rt; draft.parts.len(), 8);
-            assert_eq!(rt; draft.parts[3].name.as_str(), "O");
+            assert_eq!(rt; draft.primitives.len(), 8);
+            assert_eq!(rt; draft.primitives[3].name.as_str(), "O");
             assert_eq!(rt; draft.allow.len(), 1);
             assert_eq!(rt; draft.allow[0].colours.len(), 1);
         }
@@ -111,12 +111,12 @@ fn channels_stand_in_the_order_of_their_first_uses(rt: HostRuntime) -> Result<()
     let Ok(draft) = draft_in_text(rt.alloc(), EIGHT_KINDS) else {
         return Err(Fail::from("no draft"));
     };
-    assert_eq!(rt; draft.parts.len(), 8);
-    let ports = ports_of(&draft.parts[4].form);
+    assert_eq!(rt; draft.primitives.len(), 8);
+    let ports = ports_of(&draft.primitives[4].form);
     assert_eq!(rt; ports.first.key, "a");
     assert_eq!(rt; ports.first.channel, "f");
     assert!(rt; ports.third.is_some());
-    let channels = channel_set(rt.alloc(), &draft.parts)?;
+    let channels = channel_set(rt.alloc(), &draft.primitives)?;
     assert_eq!(rt; channels.len(), 9);
     assert_eq!(rt; channels.get_index_of("h"), Some(5));
     Ok(())
@@ -124,8 +124,6 @@ fn channels_stand_in_the_order_of_their_first_uses(rt: HostRuntime) -> Result<()
 
 #[test]
 fn paths_are_joined_by_dots(rt: HostRuntime) -> Result<(), Fail> {
-    let root = path_text(rt.alloc(), "net")?;
-    assert!(rt; root.as_bytes() == b"net".as_slice());
     let member = member_text(rt.alloc(), "net.0", "out")?;
     assert!(rt; member.as_bytes() == b"net.0.out".as_slice());
     let place = place_text(rt.alloc(), "net", 12)?;
