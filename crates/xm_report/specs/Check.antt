@@ -35,5 +35,7 @@ oracles_in it = oracles_below it.net.prims (length it.net.prims)
 
 abbrev pub check_text : Naming → Designed → List ℕ
 check_text names it =
-    count_line (codes "primitives") (length it.net.prims) ++ count_line (codes "channels") it.net.channels ++ count_line (codes "oracles") (oracles_in it)
-    ++ count_line (codes "pairs") (length (pairs (colours_at it.colours) it.net.channels)) ++ channel_lines names (colours_at it.colours) it.net.channels ++ line (codes "end")
+    count_line (codes "primitives") (length it.net.prims) ++ count_line (codes "channels") it.net.channels
+    ++ count_line (codes "oracles") (oracles_in it)
+    ++ count_line (codes "pairs") (length (pairs (colours_at it.colours) it.net.channels))
+    ++ channel_lines names (colours_at it.colours) it.net.channels ++ line (codes "end")

@@ -17,7 +17,8 @@ abbrev pub channel_fault : Naming → List ℕ → ℕ → List ℕ
 channel_fault names word c = line (codes "net: " ++ word ++ codes " " ++ name_at names.channels c)
 
 abbrev pub pair_fault : Naming → List ℕ → ℕ → ℕ → ℕ → List ℕ
-pair_fault names word c p q = line (codes "net: " ++ word ++ codes " " ++ name_at names.channels c ++ codes " " ++ name_at names.prims p ++ codes " " ++ name_at names.prims q)
+pair_fault names word c p q = line (codes "net: " ++ word ++ codes " " ++ name_at names.channels c
+    ++ codes " " ++ name_at names.prims p ++ codes " " ++ name_at names.prims q)
 
 abbrev pub wiring_line : Naming → WiringFault → List ℕ
 wiring_line names (NoInitiator c) = channel_fault names (codes "no initiator") c

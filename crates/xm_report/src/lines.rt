@@ -1,11 +1,13 @@
 //! The lines of error, one for each cause of refusal.
 
-ghost use Rattle.std.specs.Prelude.{◌≡◌, ◌++◌, ◌==◌, [], if◌then◌else◌, codes, IfOk, OnOk, Some};
+ghost use Rattle.std.specs.Prelude.{◌≡◌, ◌≢◌, ◌++◌, ◌==◌, [], if◌then◌else◌, codes, Err, IfOk, OnOk, ⊤};
 ghost use Rattle.xm_model.specs.Lines.{line};
 ghost use Rattle.xm_model.specs.Naming.{naming_of};
 ghost use Rattle.xm_report.specs.Lines as spec;
 ghost use Rattle.xm_report.specs.Lines.{channel_fault, pair_fault, path_line, signal_text, signals_text, which_text};
-ghost use Rattle.xm_report.specs.Seen.{document_fault, tape_fault};
+ghost use Rattle.xm_shape.specs.Fault as document;
+ghost use Rattle.xm_shape.specs.Gives.{Fails};
+ghost use Rattle.xm_tape.specs.Fault as tape;
 
 use crate::pieces::{push_count, push_name};
 use std::alloc::Global;
@@ -170,9 +172,10 @@ fn text_of(alloc: Global, bytes: &[u8]) -> Result<Text, OutOfMemory>
     Ok(text)
 }
 
-/// The line of a document's first fault. (Of want of memory no clause speaks.)
+/// The line of a document's first fault. Of want of memory no clause speaks.
 pub fn document_line(alloc: Global, fault: &DocFault) -> Result<Text, OutOfMemory>
-    ensures { (it : _) → document_fault fault.now ≡ Some it → IfOk result (λ text. text.items ≡ spec.document_line it) }
+    ensures { (it : document.Fault) → Fails {Y = ⊤} fault.now (Err it) → fault.now ≢ DocFault.OutOfMemory
+        → IfOk result (λ text. text.items ≡ spec.document_line it) }
 {
     match fault {
         DocFault::NotJson => text_of(alloc, b"document: not JSON\n"),
@@ -221,9 +224,10 @@ fn cycles_line(alloc: Global, count: u64) -> Result<Text, OutOfMemory>
     Ok(text)
 }
 
-/// The line of a tape's first fault. (Of want of memory no clause speaks.)
+/// The line of a tape's first fault. Of want of memory no clause speaks.
 pub fn tape_line(alloc: Global, fault: &TapeFault) -> Result<Text, OutOfMemory>
-    ensures { (it : _) → tape_fault fault.now ≡ Some it → IfOk result (λ text. text.items ≡ spec.tape_line it) }
+    ensures { (it : tape.Fault) → tape.Fails {Y = ⊤} fault.now (Err it) → fault.now ≢ TapeFault.OutOfMemory
+        → IfOk result (λ text. text.items ≡ spec.tape_line it) }
 {
     match fault {
         TapeFault::TapeShape(path) => fault_at(alloc, b"tape: shape", path),
