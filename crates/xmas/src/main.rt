@@ -2,24 +2,12 @@
 //! says why it refuses on standard error.
 #![tactic(auto)]
 
-mod answer;
-mod command;
-mod prepared;
-mod refusal;
-mod running;
-#[cfg(test)]
-mod tests;
-#[cfg(test)]
-mod tests_documents;
-mod top;
-mod writing;
-
 ghost use Rattle.std.specs.Prelude.{◌≡◌, IfOk};
 
-use crate::refusal::{Refusal, refuse};
 use std::alloc::Global;
 use std::env;
 use std::process::ExitCode;
+use xm_commands::{Refusal, plain, refuse};
 use xm_io::{StdSink, StdSource, Words};
 use xm_model::{List, OutOfMemory, Text};
 
@@ -28,7 +16,7 @@ fn main(rt: HostRuntime) -> ExitCode {
     let mut out = StdSink::new(rt.stdout());
     let mut err = StdSink::new(rt.stderr());
     let status = match words_of(&rt) {
-        Ok(words) => top::plain(rt.alloc(), &words, &mut source, &mut out, &mut err),
+        Ok(words) => plain(rt.alloc(), &words, &mut source, &mut out, &mut err),
         Err(OutOfMemory) => refuse(&mut err, &Refusal::Memory),
     };
     ExitCode::from(status)

@@ -1,0 +1,80 @@
+//! What a command writes for the bytes of a document, or why it refuses them.
+
+ghost use Rattle.std.specs.Prelude.{◌≡◌, ℕ, List as Items, IfErr, Ok, OnOk};
+ghost use Rattle.xm_design.specs.Designed.{Designed};
+ghost use Rattle.xm_model.specs.Naming.{IsNamed, naming_of};
+ghost use Rattle.xm_netlist.specs.Doc.{Doc};
+ghost use Rattle.xm_netlist.specs.Reading.{document_in};
+ghost use Rattle.xm_tape.specs.Fault as tape;
+ghost use Rattle.xm_tape.specs.Reading.{tape_in};
+ghost use Rattle.xm_commands.specs.Answered.{IsCause};
+ghost use Rattle.xm_commands.specs.Answers.{PrintsWhole};
+ghost use Rattle.xm_commands.specs.Causes.{IsDesignOf};
+ghost use Rattle.xm_commands.specs.Prepared.{IsPrepared, IsRefusedAs, is_want_of_tape};
+ghost use Rattle.xm_commands.specs.declared.command.Command.TheVariants as command;
+
+use crate::command::Command;
+use crate::prepared::{Prepared, prepare};
+use crate::refusal::Refusal;
+use crate::running::write_run;
+use crate::writing::write_check;
+use std::alloc::Global;
+use xm_io::Sink;
+use xm_model::OutOfMemory;
+use xm_order::one_run;
+use xm_report::tape_line;
+use xm_tape::{TapeFault, read_tape};
+
+fn is_memory(fault: &TapeFault) -> bool
+    ensures { result ≡ is_want_of_tape fault.now }
+{
+    matches!(fault, TapeFault::OutOfMemory)
+}
+
+/// The refusal of a tape.
+fn tape_refusal(alloc: Global, fault: &TapeFault) -> Refusal
+    ensures { (bytes : Items ℕ) (doc : Doc) (it : Designed) → document_in bytes ≡ Ok doc → IsDesignOf doc it → tape.Fails fault.now (tape_in doc.net doc.tape) → IsRefusedAs bytes command.Run result }
+{
+    if is_memory(fault) {
+        return Refusal::Memory;
+    }
+    match tape_line(alloc, fault) {
+        Ok(line) => Refusal::Tape(line),
+        Err(OutOfMemory) => Refusal::Memory,
+    }
+}
+
+/// Reads the tape and writes the text of its run.
+fn answer_run<K: Sink>(alloc: Global, prepared: &Prepared, out: &mut K) -> Result<(), Refusal>
+    requires { IsNamed prepared.now.design.net (naming_of prepared.now.names) }
+    ensures ok { (bytes : Items ℕ) → IsPrepared bytes prepared.now → OnOk result (PrintsWhole bytes command.Run (K.held out.old) (K.held out.new)) }
+    ensures err { (bytes : Items ℕ) → IsPrepared bytes prepared.now
+        → IfErr result (IsCause bytes command.Run (record { old = out.old; new = out.new; held = K.held out.old; now = K.held out.new; faults = K.faults out.old; later = K.faults out.new })) }
+{
+    one_run();
+    let _net = prepared.design.net();
+    match read_tape(alloc, &prepared.design, prepared.tape.as_ref()) {
+        Ok(tape) => write_run(alloc, &prepared.design, &prepared.names, &tape, out),
+        Err(fault) => Err(tape_refusal(alloc, &fault)),
+    }
+}
+
+/// Writes the command's output for the bytes. A refusal for the document, its net or its tape leaves `out`.
+pub fn answer<K: Sink>(
+    alloc: Global,
+    command: Command,
+    bytes: &[u8],
+    out: &mut K,
+) -> Result<(), Refusal>
+    ensures ok { OnOk result (PrintsWhole bytes.now command (K.held out.old) (K.held out.new)) }
+    ensures err { IfErr result (IsCause bytes.now command (record { old = out.old; new = out.new; held = K.held out.old; now = K.held out.new; faults = K.faults out.old; later = K.faults out.new })) }
+{
+    let prepared = match prepare(alloc, bytes) {
+        Ok(prepared) => prepared,
+        Err(refusal) => return Err(refusal),
+    };
+    match command {
+        Command::Check => write_check(alloc, &prepared, out),
+        Command::Run => answer_run(alloc, &prepared, out),
+    }
+}

@@ -1,0 +1,42 @@
+//! The commands, and the words that call them.
+
+ghost use Rattle.std.specs.Prelude.{◌≡◌, IfOk};
+ghost use Rattle.xm_model.specs.Naming.{texts_of};
+ghost use Rattle.xm_commands.specs.Words.{command_in, command_named};
+
+use std::alloc::Global;
+use xm_io::Words;
+use xm_model::OutOfMemory;
+use xm_options::read_options;
+
+/// What the program does: print the sizes and colours of a net, or the run of its tape.
+#[derive(Clone, Copy, PartialEq, Eq, Debug)]
+pub enum Command {
+    Check,
+    Run,
+}
+
+fn named(word: &[u8]) -> Option<Command>
+    ensures { result ≡ command_named word.now }
+{
+    if word == b"check".as_slice() {
+        Some(Command::Check)
+    } else if word == b"run".as_slice() {
+        Some(Command::Run)
+    } else {
+        None
+    }
+}
+
+/// The command that the words call, where they are words that the program knows.
+pub fn command_of(alloc: Global, words: &Words) -> Result<Option<Command>, OutOfMemory>
+    ensures { IfOk result (λ called. called ≡ command_in (texts_of words.now.words.items)) }
+{
+    match words.words.as_slice() {
+        [word, rest @ ..] => match read_options(alloc, &[], rest)? {
+            Some(_) => Ok(named(word.as_bytes())),
+            None => Ok(None),
+        },
+        _ => Ok(None),
+    }
+}

@@ -1,0 +1,80 @@
+//! Why the program refuses: a status and a line of error for each cause.
+
+ghost use Rattle.std.specs.Prelude.{◌≡◌, OnErr};
+ghost use Rattle.std.specs.Io.KnownBytes.{Appends};
+ghost use Rattle.xm_io.specs.Bytes.{AppendsFront};
+ghost use Rattle.xm_io.specs.Causes.{Rose};
+ghost use Rattle.xm_commands.specs.Answers.{line_of, status_of};
+
+use xm_io::{Sink, write_all};
+use xm_model::{OutOfMemory, Text};
+
+/// A cause of refusal.
+#[derive(Drop)]
+pub enum Refusal {
+    /// The words are none that the program knows.
+    Words,
+    /// The bytes are no document: the line of its first fault.
+    Document(Text),
+    /// The net is not well wired, has a colour that is not allowed, or has a loop: the line of that.
+    Net(Text),
+    /// The tape has a fault: its line.
+    Tape(Text),
+    /// A call of the source failed.
+    Read,
+    /// A call of the output failed.
+    Write,
+    /// There was no memory.
+    Memory,
+    /// There are more bytes than a document may have.
+    TooLong,
+}
+
+impl From<OutOfMemory> for Refusal {
+    ghost use Rattle.std.specs.Prelude.{◌≡◌};
+    ghost use Rattle.xm_commands.specs.declared.refusal.Refusal.TheVariants as refusal;
+
+    ghost from_gives = { λ _ r. r ≡ refusal.Memory };
+
+    fn from(_: OutOfMemory) -> Refusal {
+        Refusal::Memory
+    }
+}
+
+fn line(refusal: &Refusal) -> &[u8]
+    ensures { result.now ≡ line_of refusal.now }
+{
+    match refusal {
+        Refusal::Words => b"words\n",
+        Refusal::Document(line) | Refusal::Net(line) | Refusal::Tape(line) => line.as_bytes(),
+        Refusal::Read => b"read\n",
+        Refusal::Write => b"write\n",
+        Refusal::Memory => b"memory\n",
+        Refusal::TooLong => b"too long\n",
+    }
+}
+
+fn status(refusal: &Refusal) -> u8
+    ensures { result ≡ status_of refusal.now }
+{
+    match refusal {
+        Refusal::Words => 2,
+        Refusal::Document(_) => 3,
+        Refusal::Net(_) => 4,
+        Refusal::Tape(_) => 5,
+        Refusal::Read => 6,
+        Refusal::Write => 7,
+        Refusal::Memory => 9,
+        Refusal::TooLong => 10,
+    }
+}
+
+/// Writes the refusal's line of error, as far as the sink takes it, and answers its status.
+pub fn refuse<E: Sink>(err: &mut E, refusal: &Refusal) -> u8
+    ensures status { result ≡ status_of refusal.now }
+    ensures told { AppendsFront (E.held err.old) (E.held err.new) (line_of refusal.now) }
+    ensures told_whole { ¬ (Rose (E.faults err.old) (E.faults err.new)) → Appends (E.held err.old) (E.held err.new) (line_of refusal.now) }
+{
+    let _ = write_all(err, line(refusal));
+    status(refusal)
+}
