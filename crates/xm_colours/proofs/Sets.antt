@@ -13,7 +13,7 @@ use Rattle.xm_colours.proofs.Words.{of_has, of_le, of_more, of_rises, of_tells}
 use Rattle.xm_colours.specs.Family.{Rises, colours_at}
 use Rattle.xm_colours.specs.Spreading.{AddsOver, Fit, pair}
 use Rattle.xm_colours.specs.Words.{Has, holds, lacking, set_of, sets_of}
-use Rattle.xm_colours.specs.declared.images.Pair.{Pair}
+use Rattle.xm_colours.specs.declared.pairs.Pair.{Pair}
 use Rattle.xm_model.specs.Owner.{In}
 
 pub has_tells : (words : List ℕ) (c d : ℕ) → Has words c d → (c < length words) × (d < 64) × (holds (get_or words c 0) d ≡ true)
@@ -173,8 +173,8 @@ fit_first ps qs rs n e fit x h = fit x (subst (λ (s : List Pair). In x s) e (in
 pub fit_second : (ps qs rs : List Pair) (n m : ℕ) → ps ++ qs ≡ rs → m ≡ n → Fit rs n → Fit qs m
 fit_second ps qs rs n m e same fit x h = rw same (fit x (subst (λ (s : List Pair). In x s) e (in_right x ps qs h)))
 
-pub adds_images : (ps qs rs : List Pair) (ws vs us : List ℕ) (is js ks : List Pair) → ps ++ qs ≡ rs → AddsOver ps ws is vs js → AddsOver qs vs js us ks → AddsOver rs ws is us ks
-adds_images ps qs rs ws vs us is js ks e p q = subst (λ (s : List Pair). AddsOver s ws is us ks) e (adds_both ps qs ws vs us is js ks p q)
+pub adds_sent : (ps qs rs : List Pair) (ws vs us : List ℕ) (is js ks : List Pair) → ps ++ qs ≡ rs → AddsOver ps ws is vs js → AddsOver qs vs js us ks → AddsOver rs ws is us ks
+adds_sent ps qs rs ws vs us is js ks e p q = subst (λ (s : List Pair). AddsOver s ws is us ks) e (adds_both ps qs ws vs us is js ks p q)
 
 -- a list is its front and its last
 pub split_last : (xs : List Pair) (n : ℕ) (last : Pair) (front : List Pair) → n ≡ length xs → slice_get xs (n - 1) ≡ Some last → front ≡ remove xs (n - 1) → xs ≡ front ++ last ∷ []

@@ -13,10 +13,10 @@ use Rattle.xm_colours.proofs.Through.{closed_from, closed_given, closed_sent, co
 use Rattle.xm_colours.specs.Family.{AreColours, colours_at}
 use Rattle.xm_colours.specs.Spreading.{AddsOver, Covers, Fit, HasGiven, IsPassed, IsSpreadOver, given, pair, sent}
 use Rattle.xm_colours.specs.Words.{Has, holds, lacking, set_of, sets_of}
-use Rattle.xm_colours.specs.declared.images.Pair.{Pair}
+use Rattle.xm_colours.specs.declared.pairs.Pair.{Pair}
 use Rattle.xm_model.specs.Component.{Component, component_of}
 use Rattle.xm_model.specs.declared.parts.Primitive.{Primitive}
-use Rattle.xm_model.specs.Counted.{counted, driven_below, taken_below}
+use Rattle.xm_model.specs.Counted.{counted, driven_below}
 use Rattle.xm_model.specs.Limits.{prim_fits}
 use Rattle.xm_model.specs.Net.{HasPrim, IsNet, Network}
 use Rattle.xm_model.specs.Owner.{In}

@@ -4,7 +4,7 @@ use Rattle.std.specs.Prelude.{All}
 use Rattle.xm_colours.proofs.Among.{all_in, in_from, in_map, in_where, is_in, map_in, where_in}
 use Rattle.xm_colours.specs.Family.{Closed}
 use Rattle.xm_colours.specs.Spreading.{Covers, given, pair, sent}
-use Rattle.xm_colours.specs.declared.images.Pair.{Pair}
+use Rattle.xm_colours.specs.declared.pairs.Pair.{Pair}
 use Rattle.xm_model.specs.Component.{Component, Fork, Function, Join, Merge, Queue, Sink, Source, Switch}
 use Rattle.xm_model.specs.Net.{FitsComponent}
 use Rattle.xm_model.specs.Owner.{In}

@@ -1,4 +1,5 @@
--- Inner: what is missing from a set, and what a search for the first refused pair has found. No public clause cites these.
+-- Inner: what is missing from a set, and what a search for the first refused pair has found. No public
+-- clause cites these.
 use Rattle.std.specs.Prelude.{◌≡◌, ℕ, ◌<◌, ◌≤◌, true, false, List, Option, Some, None}
 use Rattle.xm_colours.specs.Allowing.{AllowsAll, IsFirstRefused}
 use Rattle.xm_colours.specs.Words.{holds}

@@ -2,7 +2,7 @@
 use Rattle.std.specs.Prelude.{◌≡◌, ◌⊎◌, ℕ, ◌+◌, ◌*◌, ◌<◌, ◌≤◌, ◌==◌, cond, List, [], ◌∷◌, length, map, slice_index}
 use Rattle.xm_colours.specs.Family.{IsLeast, colours_at}
 use Rattle.xm_colours.specs.Words.{Has, lacking, sets_of}
-use Rattle.xm_colours.specs.declared.images.Pair.{Pair}
+use Rattle.xm_colours.specs.declared.pairs.Pair.{Pair}
 use Rattle.xm_colours.specs.declared.spread.Spread.{Spread}
 use Rattle.xm_model.specs.Component.{Component, Fork, Function, Join, Merge, Queue, Sink, Source, Switch}
 use Rattle.xm_model.specs.Net.{HasPrim, Network}
@@ -13,38 +13,30 @@ use Rattle.xm_model.specs.Signals.{at_side, takes_a}
 abbrev pub pair : ℕ → ℕ → Pair
 pair c d = record { channel = c; colour = d }
 
--- what a primitive makes of a colour that comes in on one of its inputs
+-- what a primitive sends on for a pair that comes in on one of its inputs
 abbrev pub sent : Component → Pair → List Pair
-sent (Source out cs mode) it = []
-sent (Sink input mode) it = []
-sent (Queue input out capacity initial) it = pair out it.colour ∷ []
-sent (Function input out table) it = pair out (slice_index table it.colour) ∷ []
-sent (Fork input a b ta tb) it = pair a (slice_index ta it.colour) ∷ pair b (slice_index tb it.colour) ∷ []
+sent (Source _ _ _) it = []
+sent (Sink _ _) it = []
+sent (Queue _ out _ _) it = pair out it.colour ∷ []
+sent (Function _ out table) it = pair out (slice_index table it.colour) ∷ []
+sent (Fork _ a b table_a table_b) it =
+    pair a (slice_index table_a it.colour) ∷ pair b (slice_index table_b it.colour) ∷ []
 sent (Join a b out pass) it = cond (at_side pass a b == it.channel) (pair out it.colour ∷ []) []
-sent (Switch input a b to_a) it = cond (takes_a to_a it.colour) (pair a it.colour ∷ []) (pair b it.colour ∷ [])
-sent (Merge a b out) it = pair out it.colour ∷ []
+sent (Switch _ a b to_a) it = cond (takes_a to_a it.colour) (pair a it.colour ∷ []) (pair b it.colour ∷ [])
+sent (Merge _ _ out) it = pair out it.colour ∷ []
 
--- what it brings by itself
+-- what is given by the primitive itself
 abbrev pub given : Component → List Pair
-given (Source out cs mode) = map (pair out) cs
-given (Sink input mode) = []
-given (Queue input out capacity initial) = map (pair out) initial
-given (Function input out table) = []
-given (Fork input a b ta tb) = []
-given (Join a b out pass) = []
-given (Switch input a b to_a) = []
-given (Merge a b out) = []
+given (Source out colours _) = map (pair out) colours
+given (Queue _ out _ initial) = map (pair out) initial
+given _ = []
 
 -- its tables tell what becomes of the colour
 abbrev pub Covers : Component → ℕ → Type 0
-Covers (Source out cs mode) d = Unit {0}
-Covers (Sink input mode) d = Unit {0}
-Covers (Queue input out capacity initial) d = Unit {0}
-Covers (Function input out table) d = d < length table
-Covers (Fork input a b ta tb) d = (d < length ta) × (d < length tb)
-Covers (Join a b out pass) d = Unit {0}
-Covers (Switch input a b to_a) d = d < length to_a
-Covers (Merge a b out) d = Unit {0}
+Covers (Function _ _ table) d = d < length table
+Covers (Fork _ _ _ table_a table_b) d = (d < length table_a) × (d < length table_b)
+Covers (Switch _ _ _ to_a) d = d < length to_a
+Covers _ d = Unit {0}
 
 -- each of these pairs is of the first n channels and of 64 colours
 abbrev pub Fit : List Pair → ℕ → Type 0
@@ -55,7 +47,8 @@ abbrev pub HasAll : List ℕ → List Pair → Type 0
 HasAll words ps = (it : Pair) → In it ps → Has words it.channel it.colour
 
 -- the pairs came to the sets, those that were new are pending, and nothing else changed
-pub record AddsOver (ps : List Pair) (words : List ℕ) (pending : List Pair) (new_words : List ℕ) (new_pending : List Pair) : Type 0 where
+pub record AddsOver (ps : List Pair) (words : List ℕ) (pending : List Pair) (new_words : List ℕ)
+    (new_pending : List Pair) : Type 0 where
   pub whole : length new_words ≡ length words
   pub kept : (c d : ℕ) → Has words c d → Has new_words c d
   pub added : HasAll new_words ps

@@ -4,8 +4,8 @@
 
 mod allow;
 mod colours;
-mod images;
 mod laws;
+mod pairs;
 mod spread;
 mod word;
 

@@ -1,4 +1,4 @@
--- What offers and tests are: lemmas that proofs over two cycles and over runs share.
+-- Lemmas: what offers and tests are, for proofs over two cycles and over runs.
 use Rattle.std.proofs.Common.{◌≡◌, ◌≢◌, ℕ, Bool, true, false, not, Option, Some, None, List, slice_index, refl, is_some, inl, inr}
 use Rattle.std.specs.Prelude.{◌⊎◌}
 use Rattle.std.proofs.lemmas.Bool.{and_parts, and_from, and_left, and_right, and_cases, or_parts, or_left, or_right, or_from, or_cases}
@@ -23,7 +23,8 @@ pub only_if-false : (b : Bool) (o : Option ℕ) → b ≡ false → only_if b o 
 only_if-false true o e = cc
 only_if-false false o e = refl
 
-pub through_some : (table : List ℕ) (o : Option ℕ) (e : ℕ) → through table o ≡ Some e → (d : ℕ) × (o ≡ Some d) × (slice_index table d ≡ e)
+pub through_some : (table : List ℕ) (o : Option ℕ) (e : ℕ) → through table o ≡ Some e →
+    (d : ℕ) × (o ≡ Some d) × (slice_index table d ≡ e)
 through_some table None e h = cc
 through_some table (Some d) e h = (d, refl, (cc))
 
@@ -40,14 +41,15 @@ is_some_false None h = refl
 is_some_false (Some d) h = cc
 
 -- a stalled source offers the same again, unless it is free
-pub source_again : (mode : SourceMode) (colours : List ℕ) (pending choice next_choice : Option ℕ) (d : ℕ) → mode ≢ source_mode.Free →
-    source_offer mode colours (next_pending mode (Some d) false) next_choice ≡ Some d
+pub source_again : (mode : SourceMode) (colours : List ℕ) (pending choice next_choice : Option ℕ) (d : ℕ) →
+    mode ≢ source_mode.Free → source_offer mode colours (next_pending mode (Some d) false) next_choice ≡ Some d
 source_again source_mode.Keep colours pending choice next_choice d h = refl
 source_again source_mode.Eager colours pending choice next_choice d h = refl
 source_again source_mode.Free colours pending choice next_choice d h = absurd (h refl)
 source_again source_mode.Fair colours pending choice next_choice d h = refl
 
-pub sink_again : (mode : SinkMode) (choice : Bool) → mode ≢ sink_mode.Free → sink_ready mode (next_held mode None true) choice ≡ true
+pub sink_again : (mode : SinkMode) (choice : Bool) → mode ≢ sink_mode.Free →
+    sink_ready mode (next_held mode None true) choice ≡ true
 sink_again sink_mode.Keep choice h = refl
 sink_again sink_mode.Free choice h = absurd (h refl)
 
@@ -79,21 +81,36 @@ merge_grants_b B x (Some y) h = refl
 merge_grants_b B (Some x) None h = cc
 merge_grants_b B None None h = cc
 
-pub to_side_a_some : (to_a : List Bool) (o : Option ℕ) (d : ℕ) → to_side_a to_a o ≡ Some d → (o ≡ Some d) × (to_side_b to_a o ≡ None)
+pub to_side_a_some : (to_a : List Bool) (o : Option ℕ) (d : ℕ) → to_side_a to_a o ≡ Some d →
+    (o ≡ Some d) × (to_side_b to_a o ≡ None)
 to_side_a_some to_a None d h = cc
 to_side_a_some to_a (Some e) d h = cases (takes_a to_a e) d e h where
   cases : (b : Bool) (d e : ℕ) → only_if b (Some e) ≡ Some d → (Some e ≡ Some d) × (only_if (not b) (Some e) ≡ None)
   cases true d e h = (h, refl)
   cases false d e h = cc
 
-pub to_side_b_some : (to_a : List Bool) (o : Option ℕ) (d : ℕ) → to_side_b to_a o ≡ Some d → (o ≡ Some d) × (to_side_a to_a o ≡ None)
+pub to_side_b_some : (to_a : List Bool) (o : Option ℕ) (d : ℕ) → to_side_b to_a o ≡ Some d →
+    (o ≡ Some d) × (to_side_a to_a o ≡ None)
 to_side_b_some to_a None d h = cc
 to_side_b_some to_a (Some e) d h = cases (takes_a to_a e) d e h where
   cases : (b : Bool) (d e : ℕ) → only_if (not b) (Some e) ≡ Some d → (Some e ≡ Some d) × (only_if b (Some e) ≡ None)
   cases true d e h = cc
   cases false d e h = (h, refl)
 
-pub ruleset offers = (only_if_some, only_if-true, only_if-false, through_some, through_none, is_some_true, is_some_false, and_parts, and_from, and_left, and_right, and_cases)
+pub ruleset offers = (
+  only_if_some,
+  only_if-true,
+  only_if-false,
+  through_some,
+  through_none,
+  is_some_true,
+  is_some_false,
+  and_parts,
+  and_from,
+  and_left,
+  and_right,
+  and_cases,
+)
 
 -- what a merge offers is the offer of the side that it grants
 pub granted_some : (pref : Side) (x y : Option ℕ) (d : ℕ) → granted_offer (grant pref x y) x y ≡ Some d →

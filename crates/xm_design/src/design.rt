@@ -36,7 +36,8 @@ impl Model for Design {
 
     ghost view = { λ d. record { net = d.net; colours = d.colours; order = d.order } };
 
-    ghost invariant = { λ d. IsKept (record { net = d.net; colours = d.colours; order = d.order }) d.numbers.oracles.items d.numbers.pairs.items d.numbers.choices d.tasks.items };
+    ghost invariant = { λ d. IsKept (record { net = d.net; colours = d.colours; order = d.order })
+        d.numbers.oracles.items d.numbers.pairs.items d.numbers.oracle_count d.tasks.items };
 }
 
 impl Design {
@@ -50,10 +51,12 @@ impl Design {
         ensures net { IfOk result (λ design. design.net ≡ net) }
         ensures design { IfOk result IsDesigned }
         ensures allowed { IfOk result (λ design. AllowsAll (colours_at design.colours) (map allowed_of allow.now.items)) }
-        ensures refused { (fault : _) → result ≡ Err (NetFault.Allow fault) → IsColourRefused net (map allowed_of allow.now.items) fault.channel fault.colour }
-        ensures looped { (found : _) → result ≡ Err (NetFault.CombLoop found) → IsLoopRefused net (map allowed_of allow.now.items) found.items }
+        ensures refused { (fault : _) → result ≡ Err (NetFault.Allow fault)
+            → IsColourRefused net (map allowed_of allow.now.items) fault.channel fault.colour }
+        ensures looped { (found : _) → result ≡ Err (NetFault.CombLoop found)
+            → IsLoopRefused net (map allowed_of allow.now.items) found.items }
     {
-        let _channels = net.channels();
+        net.is_net();
         let colours = infer(alloc, &net)?;
         allowed(&net, &colours, allow)?;
         let order = match order(alloc, &net) {
@@ -70,6 +73,14 @@ impl Design {
             tasks,
             numbers,
         })
+    }
+
+    /// Net, colours and order agree. The call does nothing, and its caller has that fact.
+    pub fn is_designed(&self)
+        ensures { IsDesigned self.now }
+    {
+        // The invariant is known where a field has been read.
+        let _read = self.numbers.oracle_count;
     }
 
     /// Lends the net.
@@ -113,17 +124,17 @@ impl Design {
     pub fn oracle_count(&self) -> u32
         ensures { result ≡ oracles_below self.now.net.prims (length self.now.net.prims) }
     {
-        self.numbers.choices
+        self.numbers.oracle_count
     }
 
-    /// The number of the pair of queue `q` and colour `d` of its output, among all queue pairs.
-    pub fn queue_pair(&self, q: u32, d: u8) -> u32
-        requires { IsQueuePair self.now q d }
-        ensures { slice_get (queue_pairs (colours_at self.now.colours) 0 self.now.net.prims) result ≡ Some (q, d) }
+    /// The number of the pair of a queue and a colour of its output, among all queue pairs.
+    pub fn queue_pair(&self, queue: u32, colour: u8) -> u32
+        requires { IsQueuePair self.now queue colour }
+        ensures { slice_get (queue_pairs (colours_at self.now.colours) 0 self.now.net.prims) result ≡ Some (queue, colour) }
     {
-        match self.net.prim(q) {
+        match self.net.prim(queue) {
             Prim::Queue { out, .. } => {
-                self.numbers.pairs.as_slice()[q as usize] + self.colours.place(*out, d)
+                self.numbers.pairs.as_slice()[queue as usize] + self.colours.place(*out, colour)
             }
             _ => 0,
         }

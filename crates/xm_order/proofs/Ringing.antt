@@ -3,7 +3,7 @@ use Rattle.std.proofs.Common.{◌≡◌, ℕ, suc, ◌+◌, ◌-◌, ◌<◌, �
 use Rattle.std.proofs.lemmas.List.{length-take-le, take-append-drop}
 use Rattle.std.proofs.lemmas.Option.{slice_get_within}
 use Rattle.xm_model.specs.Net.{Network}
-use Rattle.xm_order.proofs.Places.{append_cases, get-append_left, get-append_right}
+use Rattle.xm_order.specs.Items.{append_cases, get-append_left, get-append_right}
 use Rattle.xm_order.specs.Dependence.{Depends}
 use Rattle.xm_order.specs.Loop.{IsLoop, rank}
 use Rattle.xm_order.specs.Path.{IsPath, IsRing, LastNeeds}

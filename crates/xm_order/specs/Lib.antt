@@ -1,5 +1,5 @@
 pub mod Dependence
-pub mod Induction
+pub mod Items
 pub mod Listed
 pub mod Loop
 pub mod OneFrame

@@ -1,4 +1,4 @@
--- Paths and rings of the dependence.
+-- Inner: paths and rings of the dependence. No public clause cites these.
 use Rattle.std.specs.Prelude.{◌≡◌, ℕ, suc, ◌-◌, List, length, Some, slice_get}
 use Rattle.xm_model.specs.Net.{Network}
 use Rattle.xm_order.specs.Dependence.{Depends}

@@ -69,7 +69,7 @@ pub fn needs_of(alloc: Global, net: &Net, it: Signal) -> Result<SmallVec<Signal,
     requires { channel_of it < net.now.channels }
     ensures { IfOk result (λ needs. ListsAll (Depends net.now it) needs.items) }
 {
-    let _channels = net.channels();
+    net.is_net();
     match it {
         Signal::Offer(c) => offer_needs(alloc, net.prim(net.initiator(c)), c),
         Signal::Ready(c) => ready_needs(alloc, net.prim(net.target(c)), c),

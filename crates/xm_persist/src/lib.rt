@@ -3,7 +3,7 @@
 
 mod fault;
 mod laws;
-mod marks;
+mod persistencies;
 mod persistent;
 
 pub use fault::PersistFault;

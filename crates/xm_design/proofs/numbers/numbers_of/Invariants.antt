@@ -7,7 +7,7 @@ use Rattle.xm_design.proofs.numbers.numbers_of.Given as goal
 
 abbrev pub invariant-loop-p : goal.invariant-loop-p
 invariant-loop-p l = record {
-  choices : l.choices_below ≡ oracles_below (map component_of l.prims) l.p;
+  count : l.oracles_below ≡ oracles_below (map component_of l.prims) l.p;
   oracles : AreNumbers (oracles_below (map component_of l.prims)) l.p l.oracles.items;
   below : l.pairs_below ≡ pairs_below (colours_at l.colours) (map component_of l.prims) l.p;
   pairs : AreNumbers (pairs_below (colours_at l.colours) (map component_of l.prims)) l.p l.pairs.items;
