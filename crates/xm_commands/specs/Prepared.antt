@@ -16,7 +16,8 @@ use Rattle.xm_netlist.specs.declared.document.Document.{Document}
 use Rattle.xm_report.specs.Lines.{colour_line, loop_line}
 use Rattle.xm_tape.specs.declared.fault.TapeFault.{TapeFault}
 use Rattle.xm_tape.specs.declared.fault.TapeFault.TheVariants as tape_faults
-use Rattle.xm_commands.specs.Causes.{IsDesignOf, Refuses}
+use Rattle.xm_commands.specs.Output.{IsDesignOf}
+use Rattle.xm_commands.specs.Refusal.{Refuses}
 use Rattle.xm_commands.specs.declared.command.Command.{Command}
 use Rattle.xm_commands.specs.declared.prepared.Prepared.{Prepared}
 use Rattle.xm_commands.specs.declared.refusal.Refusal.{Refusal}
@@ -38,14 +39,11 @@ pub record IsReadAs (bytes : List ℕ) (it : Document) : Type 0 where
 
 -- the refusal of the bytes is for this cause; want of memory is free
 abbrev pub IsRefusedAs : List ℕ → Command → Refusal → Type 0
-IsRefusedAs bytes it refusal.Words = ⊥
 IsRefusedAs bytes it (refusal.Document line) = Refuses bytes it 3 line.items
 IsRefusedAs bytes it (refusal.Net line) = Refuses bytes it 4 line.items
 IsRefusedAs bytes it (refusal.Tape line) = Refuses bytes it 5 line.items
-IsRefusedAs bytes it refusal.Read = ⊥
-IsRefusedAs bytes it refusal.Write = ⊥
 IsRefusedAs bytes it refusal.Memory = Unit {0}
-IsRefusedAs bytes it refusal.TooLong = ⊥
+IsRefusedAs bytes it _ = ⊥
 
 -- the fault is one of the net with its list of allowed colours
 abbrev pub IsNetFault : Network → List Allowed → NetFault → Type 0
@@ -59,33 +57,17 @@ net_fault_line names (net_faults.Allow fault) = Some (colour_line names fault.ch
 net_fault_line names (net_faults.CombLoop found) = Some (loop_line names found.items)
 net_fault_line names net_faults.OutOfMemory = None
 
--- the document's fault is want of memory, or one of wiring
+-- the fault of the document is want of memory
 abbrev pub is_want : DocFault → Bool
-is_want doc_faults.NotJson = false
-is_want (doc_faults.Shape path) = false
-is_want (doc_faults.UnknownKind path) = false
-is_want (doc_faults.UnknownColour path) = false
-is_want (doc_faults.BadName path) = false
-is_want (doc_faults.SameName path) = false
-is_want (doc_faults.Limit which count) = false
-is_want (doc_faults.Wiring fault names) = false
 is_want doc_faults.OutOfMemory = true
+is_want _ = false
 
+-- the fault of the document is one of wiring
 abbrev pub is_of_wiring : DocFault → Bool
-is_of_wiring doc_faults.NotJson = false
-is_of_wiring (doc_faults.Shape path) = false
-is_of_wiring (doc_faults.UnknownKind path) = false
-is_of_wiring (doc_faults.UnknownColour path) = false
-is_of_wiring (doc_faults.BadName path) = false
-is_of_wiring (doc_faults.SameName path) = false
-is_of_wiring (doc_faults.Limit which count) = false
 is_of_wiring (doc_faults.Wiring fault names) = true
-is_of_wiring doc_faults.OutOfMemory = false
+is_of_wiring _ = false
 
--- the tape's fault is want of memory
+-- the fault of the tape is want of memory
 abbrev pub is_want_of_tape : TapeFault → Bool
 is_want_of_tape tape_faults.OutOfMemory = true
-is_want_of_tape (tape_faults.TapeShape path) = false
-is_want_of_tape (tape_faults.TapeLimit count) = false
-is_want_of_tape (tape_faults.RowLength row bytes) = false
-is_want_of_tape (tape_faults.BadMark row oracle) = false
+is_want_of_tape _ = false

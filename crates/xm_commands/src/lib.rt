@@ -4,6 +4,7 @@
 
 mod answer;
 mod command;
+mod laws;
 mod prepared;
 mod refusal;
 mod running;
@@ -15,5 +16,6 @@ mod top;
 mod writing;
 
 pub use command::Command;
+pub use laws::{no_output_of_refused, one_output, one_refusal};
 pub use refusal::{Refusal, refuse};
 pub use top::plain;

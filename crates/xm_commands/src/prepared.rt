@@ -68,7 +68,8 @@ fn net_line(alloc: Global, names: &Names, fault: &NetFault) -> Result<Text, OutO
 
 /// The refusal of a net that makes no design.
 fn net_refusal(alloc: Global, names: &Names, fault: &NetFault) -> Refusal
-    ensures { (bytes : Items ℕ) (it : Command) (doc : Doc) → document_in bytes ≡ Ok doc → naming_of names.now ≡ doc.names → IsNetFault doc.net doc.allow fault.now → IsRefusedAs bytes it result }
+    ensures { (bytes : Items ℕ) (it : Command) (doc : Doc) → document_in bytes ≡ Ok doc
+        → naming_of names.now ≡ doc.names → IsNetFault doc.net doc.allow fault.now → IsRefusedAs bytes it result }
 {
     match net_line(alloc, names, fault) {
         Ok(line) => Refusal::Net(line),

@@ -5,6 +5,7 @@ mod design;
 mod fault;
 mod laws;
 mod numbers;
+mod steps;
 mod tasks;
 
 pub use design::Design;

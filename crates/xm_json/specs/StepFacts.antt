@@ -2,7 +2,7 @@
 use Rattle.std.proofs.Common.{◌≡◌, ℕ, suc, Bool, true, false, List, [], ◌∷◌, length, Option, Some, None, Result, Ok, Err, refl, ap, subst}
 use Rattle.std.specs.Prelude.{⊤, IfSome}
 use Rattle.xm_model.specs.Steps.{◌>>=◌, check, demand, each_from}
-use Rattle.xm_json.specs.Gives.{FailsBy}
+use Rattle.xm_json.specs.Gives.{FailsBy, told_as}
 
 module _ {E : Type 0} where
   pub bound : {A B : Type 0} (r : Result A E) (k : A → Result B E) (y : B) → (r >>= k) ≡ Ok y → (x : A) × (r ≡ Ok x) × (k x ≡ Ok y)
@@ -40,6 +40,11 @@ module _ {E : Type 0} where
   each_length {A} {B} f i (x ∷ xs) ys e =
       let c = cons f i x xs ys e in
       subst (λ (l : List B). length l ≡ length (x ∷ xs)) c.same (ap suc (each_length f (suc i) xs c.others c.are_others))
+
+-- a step with faults in other words found the same
+pub told_ok : {E F A : Type 0} (tell : E → F) (r : Result A E) (x : A) → told_as tell r ≡ Ok x → r ≡ Ok x
+told_ok tell (Ok y) x e = let same : y ≡ x = cc in ap (λ z. Ok z) same
+told_ok tell (Err f) x e = absurd cc
 
 -- the fault of a step is that of all that goes on with it
 module _ {E F : Type 0} (shown : E → Option F) where

@@ -1,4 +1,5 @@
--- The value at a path has its form. A step of reading gives what it reads, or the path of the first value that has not its form.
+-- The value at a path has its form. A step of reading gives what it reads, or the path of the first value that has not
+-- its form.
 use Rattle.std.specs.Prelude.{ℕ, List, [], ◌∷◌, nat_le, option_and_then, Result, Ok}
 use Rattle.serde_json.specs.Data.{Data, Items, no_items, item}
 use Rattle.serde_json.specs.Find.{as_array, as_number, as_str, as_u64}

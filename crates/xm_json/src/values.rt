@@ -94,11 +94,7 @@ pub fn texts_in<'v>(
 
 /// The value at `path`, a list of texts.
 #[tactic(auto, unfolding(crate::specs::Values::texts_at))]
-pub fn texts_at<'v>(
-    alloc: Global,
-    path: &str,
-    value: &'v Value,
-) -> Result<Vec<&'v str>, PathFault>
+pub fn texts_at<'v>(alloc: Global, path: &str, value: &'v Value) -> Result<Vec<&'v str>, PathFault>
     ensures { Gives (λ texts. lent_texts texts.items) result (spec.texts_at path.now (view value.now)) }
 {
     let items = list_at(alloc, path, value)?;

@@ -1,4 +1,4 @@
--- Within the crate: what stands before the colour of a move, for each channel.
+-- Inner: what stands before the colour of a move, for each channel. No public clause cites this.
 use Rattle.std.specs.Prelude.{◌≡◌, ℕ, List, map}
 use Rattle.xm_model.specs.Listing.{Listing}
 use Rattle.xm_model.specs.Naming.{texts_of}

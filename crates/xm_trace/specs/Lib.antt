@@ -2,8 +2,8 @@ pub mod Joining
 pub mod Labels
 pub mod Moves
 pub mod Rounds
+pub mod RunTextState
 pub mod Runs
 pub mod Sums
 pub mod Table
 pub mod Text
-pub mod Told

@@ -76,7 +76,7 @@ loop-from-preserved g c =
       channels = c.in_ok-lines.ensures.channels ∙ before.channels;
       colours = c.in_ok-lines.ensures.colours ∙ before.colours;
       had = λ s φ run. c.in_ok-lines.ensures.had φ (follows s φ run);
-      unharmed = c.in_ok-write_text.ensures.kept ∙ before.unharmed;
+      unharmed = c.in_ok-write_text.ensures.cause.kept ∙ before.unharmed;
       written = λ s φ run.
           appends_same (g.K.Sink.held c.args.out.now) (g.K.Sink.held c.write_text.new.out) _ _
           (lines_joined c.rounds_join.ensures (naming_of c.args.names.now) φ c.loop-from.from told.cycles part.cycles c.round_end-to.result c.in_ok-lines.lines.items before.cycles end (c.in_ok-lines.ensures.text φ (follows s φ run)))

@@ -9,7 +9,7 @@ use Rattle.xm_trace.specs.Joining.{follows_run, lines_joined, moved_next}
 use Rattle.xm_trace.specs.Rounds.{HasHadRun, RoundsJoin}
 use Rattle.xm_trace.specs.Runs.{AreMovesFrom, IsRunOf}
 use Rattle.xm_trace.specs.Text.{round_lines}
-use Rattle.xm_trace.specs.Told.{Follows, Told}
+use Rattle.xm_trace.specs.RunTextState.{Follows, RunTextState}
 use Rattle.xm_trace.specs.declared.trace.Move.{Move}
 use Rattle.xm_trace.proofs.tests.in_rounds.Goals as goal
 

@@ -21,4 +21,4 @@ returns c φ is =
     ∙ ap (λ (ms : List Move). sum_in ms k d) c.as_slice.ensures in
     let ended = c.in_ok-push_end.ensures
     ∙ ap (λ (xs : List ℕ). c.push_round.new.text.items ++ (sum_lines names (sum_at xs (length names.colours)) (length names.channels) ++ end_line c.args.trace.now.cycles)) c.as_slice-2.ensures in
-    whole_text names φ c.args.trace.now.cycles c.args.trace.now.moves.items sums c.new-text.result.items c.push_round.new.text.items c.push_end.new.text.items is same c.new-text.ensures.items (c.in_ok-push_round.ensures φ) ended
+    whole_text names φ c.args.trace.now.cycles c.args.trace.now.moves.items sums c.new-text.result.items c.push_round.new.text.items c.push_end.new.text.items is same c.new-text.ensures.items (c.in_ok-push_round.ensures φ is) ended
