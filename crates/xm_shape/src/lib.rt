@@ -16,6 +16,3 @@ pub use draft::{Allowing, Draft, Form, Image, Part};
 pub use fault::{DocFault, Which};
 pub use path::{member_text, path_text, place_text};
 pub use shape::draft_of;
-
-#[cfg(test)]
-mod tests;

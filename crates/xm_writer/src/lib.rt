@@ -6,6 +6,3 @@ mod spelling;
 mod writing;
 
 pub use writing::write_document;
-
-#[cfg(test)]
-mod tests_writing;
