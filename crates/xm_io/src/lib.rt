@@ -51,6 +51,3 @@ pub trait Sink {
         ensures bytes { WriteAppends (held self.old) (held self.new) result piece.now }
         ensures cause { HasCause (faults self.old) (faults self.new) result };
 }
-
-#[cfg(test)]
-mod tests;

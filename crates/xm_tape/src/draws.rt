@@ -88,21 +88,3 @@ pub fn push_drawn_rows(
     }
     Ok(())
 }
-
-#[cfg(test)]
-mod tests {
-    use super::next_number;
-
-    #[test]
-    fn the_generator_gives_its_numbers(rt: HostRuntime) {
-        let mut number = 0;
-        for expected in [
-            1442695040888963407,
-            1876011003808476466,
-            11166244414315200793,
-        ] {
-            number = next_number(number);
-            assert_eq!(rt; number, expected);
-        }
-    }
-}
