@@ -3,11 +3,11 @@
 use crate::helpers::is_text;
 use serde_json::Value;
 use std::alloc::Global;
+use xm_json::{member_text, place_text};
 use xm_model::{Allow, OutOfMemory, Prim, Text, WiringFault};
 use xm_netlist::{Document, read_document, read_value};
 use xm_shape::{
-    DocFault, Draft, Part, Ports, Which, channel_set, draft_of, member_text, path_text, place_text,
-    ports_of,
+    DocFault, NamedNet, NamedPrimitive, Ports, Which, channel_set, named_net_of, ports_of,
 };
 use xm_writer::write_document;
 
@@ -76,7 +76,7 @@ fn is_answer<T>(answer: &Result<T, DocFault>, expected: Answer) -> bool {
 /// Whether the text, which is JSON, has a shape or this fault of one.
 fn is_shaped(alloc: Global, text: &str, expected: Answer) -> bool {
     match Value::from_str(alloc, text) {
-        Ok(root) => is_answer(&draft_of(alloc, &root), expected),
+        Ok(root) => is_answer(&named_net_of(alloc, &root), expected),
         Err(_) => false,
     }
 }
@@ -110,21 +110,21 @@ fn is_read_after_both(alloc: Global, first: Change, second: Change, expected: An
     }
 }
 
-fn is_named(part: Option<&Part>, name: &str) -> bool {
-    match part {
-        Some(part) => part.name.as_str() == name,
+fn is_named(primitive: Option<&NamedPrimitive>, name: &str) -> bool {
+    match primitive {
+        Some(primitive) => primitive.name.as_str() == name,
         None => false,
     }
 }
 
-fn is_draft_of_all(draft: &Draft) -> bool {
-    let allowed = match draft.allow.as_slice() {
+fn names_all(net: &NamedNet) -> bool {
+    let allowed = match net.allow.as_slice() {
         [only] => only.colours.len() == 1,
         _ => false,
     };
-    draft.colours.len() == 2
-        && draft.parts.len() == 8
-        && is_named(draft.parts.get(3), "O")
+    net.colours.len() == 2
+        && net.primitives.len() == 8
+        && is_named(net.primitives.get(3), "O")
         && allowed
 }
 
@@ -132,42 +132,42 @@ fn is_join(ports: Ports) -> bool {
     ports.first.key == "a" && ports.first.channel == "f" && ports.third.is_some()
 }
 
-fn has_join_at(parts: &[Part], place: usize) -> bool {
-    match parts.get(place) {
-        Some(part) => is_join(ports_of(&part.form)),
+fn has_join_at(primitives: &[NamedPrimitive], place: usize) -> bool {
+    match primitives.get(place) {
+        Some(primitive) => is_join(ports_of(&primitive.form)),
         None => false,
     }
 }
 
-fn has_channels(alloc: Global, parts: &[Part]) -> bool {
-    match channel_set(alloc, parts) {
+fn has_channels(alloc: Global, primitives: &[NamedPrimitive]) -> bool {
+    match channel_set(alloc, primitives) {
         Ok(channels) => channels.len() == 9 && channels.get_index_of("h") == Some(5),
         Err(OutOfMemory) => false,
     }
 }
 
-fn is_drafted(alloc: Global, draft: &Draft) -> bool {
-    is_draft_of_all(draft) && has_join_at(&draft.parts, 4) && has_channels(alloc, &draft.parts)
+fn is_named_net(alloc: Global, net: &NamedNet) -> bool {
+    names_all(net) && has_join_at(&net.primitives, 4) && has_channels(alloc, &net.primitives)
 }
 
-fn drafts_all(alloc: Global, root: &Value) -> bool {
-    match draft_of(alloc, root) {
-        Ok(draft) => is_drafted(alloc, &draft),
+fn reads_all(alloc: Global, root: &Value) -> bool {
+    match named_net_of(alloc, root) {
+        Ok(net) => is_named_net(alloc, &net),
         Err(_) => false,
     }
 }
 
 /// Each kind is read, and the channels stand in the order of their first uses.
-fn all_kinds_are_drafted(alloc: Global) -> bool {
+fn all_kinds_have_a_shape(alloc: Global) -> bool {
     match Value::from_str(alloc, EIGHT_KINDS) {
-        Ok(root) => drafts_all(alloc, &root),
+        Ok(root) => reads_all(alloc, &root),
         Err(_) => false,
     }
 }
 
 #[test]
-fn each_kind_is_drafted(rt: HostRuntime) {
-    assert!(rt; all_kinds_are_drafted(rt.alloc()));
+fn each_kind_is_named_net(rt: HostRuntime) {
+    assert!(rt; all_kinds_have_a_shape(rt.alloc()));
 }
 
 /// What is changed into what in the document of all kinds, and where its first fault then is.
@@ -245,7 +245,6 @@ fn a_kind_that_is_unknown_is_told(rt: HostRuntime) {
 
 #[test]
 fn paths_are_joined_by_dots(rt: HostRuntime) {
-    assert!(rt; is_text(path_text(rt.alloc(), "net"), "net"));
     assert!(rt; is_text(member_text(rt.alloc(), "net.0", "out"), "net.0.out"));
     assert!(rt; is_text(place_text(rt.alloc(), "net", 12), "net.12"));
 }
