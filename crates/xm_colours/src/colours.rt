@@ -15,8 +15,8 @@ pub struct Colours {
 /// A contract sees each channel's colours, rising.
 impl Model for Colours {
     ghost use Rattle.std.specs.Prelude.{ℕ, List as Items, ◌≤◌, length};
-    ghost use Rattle.xm_colours.specs.Words.{sets_of};
-    ghost use Rattle.xm_model.specs.Sizes.{most_channels};
+    ghost use Rattle.xm_colours.specs.Inner.Words.{sets_of};
+    ghost use Rattle.xm_model.specs.Limits.{most_channels};
 
     ghost Value = { Items (Items ℕ) };
 
@@ -29,9 +29,9 @@ impl Colours {
     ghost use Rattle.std.specs.Prelude.{◌≡◌, ◌↔◌, ◌≤◌, length, slice_get, IsTrue};
     ghost use Rattle.xm_colours.specs.Family.{colours_at};
     ghost use Rattle.xm_colours.specs.Pairs.{pairs};
-    ghost use Rattle.xm_colours.specs.Words.{set_of, sets_of};
-    ghost use Rattle.xm_model.specs.Run.{IsIn};
-    ghost use Rattle.xm_model.specs.Sizes.{most_channels, most_colours};
+    ghost use Rattle.xm_colours.specs.Inner.Words.{set_of, sets_of};
+    ghost use Rattle.xm_model.specs.Membership.{IsIn};
+    ghost use Rattle.xm_model.specs.Limits.{most_channels, most_colours};
 
     /// The sets of these words.
     pub(crate) fn of(words: List<u64>) -> Colours

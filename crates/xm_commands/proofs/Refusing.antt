@@ -19,8 +19,8 @@ use Rattle.xm_tape.specs.declared.fault.TapeFault.{TapeFault}
 use Rattle.xm_tape.specs.declared.fault.TapeFault.TheVariants as tape_faults
 use Rattle.xm_commands.specs.Output.{IsDesignOf}
 use Rattle.xm_commands.specs.Refusal.{Refuses, of_colour, of_document, of_loop, of_tape}
-use Rattle.xm_commands.specs.WhyEnded.{Change, IsCause, IsUnharmed, IsUntouched}
-use Rattle.xm_commands.specs.Prepared.{IsNetFault, IsRefusedAs, is_of_wiring, is_want, is_want_of_tape, net_fault_line}
+use Rattle.xm_commands.specs.Inner.WhyEnded.{Change, IsCause, IsUnharmed, IsUntouched}
+use Rattle.xm_commands.specs.Inner.Prepared.{IsNetFault, IsRefusedAs, is_of_wiring, is_want, is_want_of_tape, net_fault_line}
 use Rattle.xm_commands.specs.declared.command.Command.{Command}
 use Rattle.xm_commands.specs.declared.command.Command.TheVariants as commands
 use Rattle.xm_commands.specs.declared.refusal.Refusal.{Refusal}

@@ -7,7 +7,7 @@ ghost use Rattle.xm_io.specs.Faults.{Rose};
 ghost use Rattle.xm_model.specs.Naming.{naming_of};
 ghost use Rattle.xm_tape.specs.Taped.{cycles_of};
 ghost use Rattle.xm_trace.specs.Text.{IsTextOfRun};
-ghost use Rattle.xm_commands.specs.WhyEnded.{IsWriteFault};
+ghost use Rattle.xm_commands.specs.Inner.WhyEnded.{IsWriteFault};
 
 use crate::refusal::Refusal;
 use crate::writing::write_text;

@@ -6,10 +6,10 @@ use Rattle.xm_design.specs.Designed.{Designed, IsDesigned}
 use Rattle.xm_design.specs.Tasks.{AreTasks}
 use Rattle.xm_design.specs.declared.tasks.Task.{Task}
 use Rattle.xm_model.specs.Component.{Component, Queue}
-use Rattle.xm_model.specs.Lists.{oracles_below}
+use Rattle.xm_model.specs.Views.{oracles_below}
 use Rattle.xm_model.specs.Net.{HasPrim, Network}
-use Rattle.xm_model.specs.Run.{IsIn}
-use Rattle.xm_model.specs.Sizes.{most_colours}
+use Rattle.xm_model.specs.Membership.{IsIn}
+use Rattle.xm_model.specs.Limits.{most_colours}
 use Rattle.xm_order.specs.declared.signal.Signal.{Signal}
 
 -- for each place below the count, the number that belongs there

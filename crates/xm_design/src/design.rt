@@ -4,9 +4,9 @@ ghost use Rattle.std.specs.Prelude.{◌≡◌, ◌<◌, ℕ, length, map, slice_
 ghost use Rattle.xm_colours.specs.Allowing.{AllowsAll};
 ghost use Rattle.xm_colours.specs.Family.{colours_at};
 ghost use Rattle.xm_colours.specs.Pairs.{queue_pairs};
-ghost use Rattle.xm_model.specs.Lists.{oracles_below};
+ghost use Rattle.xm_model.specs.Views.{oracles_below};
 ghost use Rattle.xm_model.specs.Naming.{allowed_of};
-ghost use Rattle.xm_model.specs.Run.{IsIn};
+ghost use Rattle.xm_model.specs.Membership.{IsIn};
 
 use crate::fault::NetFault;
 use crate::steps::{Tables, allowed_colours, order_of, tables_of};

@@ -5,8 +5,8 @@ ghost use Rattle.xm_colours.specs.Family.{colours_at};
 ghost use Rattle.xm_colours.specs.Pairs.{queue_pairs_at};
 ghost use Rattle.xm_design.specs.Numbers.{ArePairsBelow, IsOracles};
 ghost use Rattle.xm_model.specs.Component.{component_of};
-ghost use Rattle.xm_model.specs.Lists.{is_oracle, oracles_below};
-ghost use Rattle.xm_model.specs.Sizes.{most_colours};
+ghost use Rattle.xm_model.specs.Views.{is_oracle, oracles_below};
+ghost use Rattle.xm_model.specs.Limits.{most_colours};
 
 use std::alloc::Global;
 use xm_colours::Colours;

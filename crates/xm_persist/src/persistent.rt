@@ -1,8 +1,8 @@
 //! Designs of which every channel is persistent.
 
 ghost use Rattle.std.specs.Prelude.{◌≡◌, ◌<◌, ◌≤◌, ℕ, false, true, length, slice_get, IfNone, IfOk, IfSome, Some};
-ghost use Rattle.xm_model.specs.Sizes.{most_channels};
-ghost use Rattle.xm_persist.specs.Persistencies.{granted_in};
+ghost use Rattle.xm_model.specs.Limits.{most_channels};
+ghost use Rattle.xm_persist.specs.Inner.Persistencies.{granted_in};
 ghost use Rattle.xm_order.specs.declared.signal.Signal.TheVariants as signal;
 ghost use Rattle.xm_persist.specs.Rights.{AllGranted, IsFirstUngranted};
 

@@ -1,7 +1,7 @@
 //! The lines of error, one for each cause of refusal.
 
 ghost use Rattle.std.specs.Prelude.{◌≡◌, ◌++◌, ◌==◌, [], if◌then◌else◌, codes, IfOk, OnOk, Some};
-ghost use Rattle.xm_model.specs.Lines.{line};
+ghost use Rattle.xm_model.specs.TextLines.{line};
 ghost use Rattle.xm_model.specs.Naming.{naming_of};
 ghost use Rattle.xm_report.specs.Lines as spec;
 ghost use Rattle.xm_report.specs.Lines.{channel_fault, pair_fault, path_line, signal_text, signals_text, which_text};

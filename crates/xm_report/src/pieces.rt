@@ -1,7 +1,7 @@
 //! Pieces that several texts are made of.
 
 ghost use Rattle.std.specs.Prelude.{◌≡◌, ◌++◌, decimal, OnOk};
-ghost use Rattle.xm_model.specs.Lines.{name_at};
+ghost use Rattle.xm_model.specs.TextLines.{name_at};
 ghost use Rattle.xm_model.specs.Naming.{texts_of};
 
 use xm_model::{OutOfMemory, Text, name_of};

@@ -3,8 +3,8 @@
 ghost use Rattle.std.specs.Prelude.{◌≡◌, ◌+◌, ◌*◌, ◌<◌, IfOk, OnOk, length};
 ghost use Rattle.xm_model.specs.Component.{component_of};
 ghost use Rattle.xm_tape.specs.Draws as spec;
-ghost use Rattle.xm_tape.specs.Views.{components_of};
-ghost use Rattle.xm_tape.specs.Flat.{IsLonger, added, rows_at};
+ghost use Rattle.xm_tape.specs.Inner.Views.{components_of};
+ghost use Rattle.xm_tape.specs.Inner.Flat.{IsLonger, added, rows_at};
 
 use xm_model::{Choice, List, OutOfMemory, Prim};
 

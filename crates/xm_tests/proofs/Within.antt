@@ -6,9 +6,9 @@ use Rattle.std.proofs.lemmas.List.Sums.{sum_by-cons}
 use Rattle.std.specs.List.{All}
 use Rattle.xm_model.specs.Component.{Component, Source, Sink, Queue, Function, Fork, Join, Switch, Merge, component_of}
 use Rattle.xm_model.specs.Net.{FitsComponent, IsWithinLimits, capacity_of, inputs, network_of, outputs}
-use Rattle.xm_model.specs.Sizes.{most_channels, most_colours, most_primitives}
-use Rattle.xm_model.specs.declared.parts.Primitive.{Primitive}
-use Rattle.xm_tests.specs.Fitting.{Fits, FitsPorts}
+use Rattle.xm_model.specs.Limits.{most_channels, most_colours, most_primitives}
+use Rattle.xm_model.specs.declared.primitive.Primitive.{Primitive}
+use Rattle.xm_tests.specs.Inner.Fitting.{Fits, FitsPorts}
 
 one : (n c : ℕ) → c < n → All (λ k. k < n) (c ∷ [])
 one n c h = All-cons (λ k. k < n) c [] h (All-nil (λ k. k < n))

@@ -1,2 +1,2 @@
 -- What the tests' own contracts cite.
-pub mod Fitting
+pub mod Inner

@@ -26,7 +26,7 @@ fn second_frame(alloc: Global, design: &Design) -> Result<Frame, OutOfMemory> {
     Ok(frame)
 }
 
-fn takes(alloc: Global, design: &Design) -> bool {
+fn has_input(alloc: Global, design: &Design) -> bool {
     match second_frame(alloc, design) {
         Ok(frame) => are_taken(frame.wires.as_slice()),
         Err(_) => false,
@@ -35,7 +35,7 @@ fn takes(alloc: Global, design: &Design) -> bool {
 
 fn row_takes(alloc: Global) -> bool {
     match design_of(alloc, &ROW, 2, 1) {
-        Some(design) => takes(alloc, &design),
+        Some(design) => has_input(alloc, &design),
         None => false,
     }
 }

@@ -3,7 +3,7 @@
 ghost use Rattle.std.specs.Prelude.{◌<◌, ◌≤◌, All, IsTrue, map};
 ghost use Rattle.xm_model.specs.Component.{component_of};
 ghost use Rattle.xm_model.specs.Net.{IsColourMap, IsWithinLimits, network_of};
-ghost use Rattle.xm_tests.specs.Fitting.{Fits};
+ghost use Rattle.xm_tests.specs.Inner.Fitting.{Fits};
 
 use std::alloc::Global;
 use xm_design::Design;

@@ -22,11 +22,11 @@ enum Case {
 }
 
 /// A source, a queue and a sink.
-fn stream(alloc: Global, offers: SourceMode, takes: SinkMode) -> Option<Design> {
+fn stream(alloc: Global, offers: SourceMode, has_input: SinkMode) -> Option<Design> {
     let pieces = [
         Piece::Source(0, &BOTH, offers),
         Piece::Queue(0, 1, 2, &[]),
-        Piece::Sink(1, takes),
+        Piece::Sink(1, has_input),
     ];
     design_of(alloc, &pieces, 2, 2)
 }
@@ -118,7 +118,7 @@ fn waiting(alloc: Global, second: SourceMode, behind: SinkMode) -> Option<Design
 
 fn design_in(alloc: Global, case: Case) -> Option<Design> {
     match case {
-        Case::Stream(offers, takes) => stream(alloc, offers, takes),
+        Case::Stream(offers, has_input) => stream(alloc, offers, has_input),
         Case::Row => row(alloc),
         Case::Diamond => diamond(alloc),
         Case::Meeting(second) => meeting(alloc, second),

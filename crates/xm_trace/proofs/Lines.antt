@@ -8,7 +8,7 @@ use Rattle.xm_model.specs.Run.{is_offer, moves}
 use Rattle.xm_model.specs.Signals.{Signals}
 use Rattle.xm_trace.proofs.Counting.{at_most_one}
 use Rattle.xm_trace.specs.Moves.{cycle_moves, moved_on, round_moves}
-use Rattle.xm_model.specs.Lines.{line}
+use Rattle.xm_model.specs.TextLines.{line}
 use Rattle.xm_model.specs.Naming.{Naming}
 use Rattle.xm_trace.specs.Rounds.{RoundsJoin}
 use Rattle.xm_trace.specs.Sums.{sum_at, sum_in}

@@ -4,17 +4,17 @@ use Rattle.std.proofs.lemmas.Option.{slice_get-get_or}
 use Rattle.std.specs.Prelude.{[], slice_index_or}
 use Rattle.xm_model.specs.Component.{Content}
 use Rattle.xm_model.specs.Frame.{Equation, IsFrame}
-use Rattle.xm_model.specs.Lists.{IsNextOf, choice_at, content_at, offer_or, ready_or, signals_of}
+use Rattle.xm_model.specs.Views.{IsNextOf, choice_at, content_at, offer_or, ready_or, signals_of}
 use Rattle.xm_model.specs.Net.{IsNet, Network}
 use Rattle.xm_model.specs.Next.{move}
 use Rattle.xm_model.specs.Signals.{Signals, only_if}
-use Rattle.xm_model.specs.declared.parts.Cell.{Cell}
-use Rattle.xm_model.specs.declared.parts.Choice.{Choice}
-use Rattle.xm_model.specs.declared.parts.Wire.{Wire}
+use Rattle.xm_model.specs.declared.state.Cell.{Cell}
+use Rattle.xm_model.specs.declared.state.Choice.{Choice}
+use Rattle.xm_model.specs.declared.state.Wire.{Wire}
 use Rattle.xm_order.specs.Dependence.{IsOrder}
 use Rattle.xm_order.specs.OneFrame.{SameFrame}
 use Rattle.xm_order.specs.OneRun.{OneRun}
-use Rattle.xm_order.specs.SameNext.{next_same}
+use Rattle.xm_order.specs.Lemmas.SameNext.{next_same}
 use Rattle.xm_order.specs.declared.signal.Signal.{Signal}
 use Rattle.xm_tape.specs.Taped.{Taped, chosen, cycles_of, rows_of}
 use Rattle.xm_trace.specs.Moves.{cycle_moves, moved_on, round_moves}

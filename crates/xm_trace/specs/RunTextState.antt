@@ -3,7 +3,7 @@ use Rattle.std.specs.Prelude.{◌≡◌, ℕ, zero, suc, ◌+◌, ◌*◌, ◌^�
 use Rattle.xm_model.specs.Naming.{Naming}
 use Rattle.xm_model.specs.Run.{moves}
 use Rattle.xm_model.specs.Signals.{Signals}
-use Rattle.xm_model.specs.Sizes.{most_channels, most_colours}
+use Rattle.xm_model.specs.Limits.{most_channels, most_colours}
 use Rattle.xm_trace.specs.Moves.{round_moves}
 use Rattle.xm_trace.specs.Sums.{sum_at}
 use Rattle.xm_trace.specs.declared.run_text.Total.{Total}

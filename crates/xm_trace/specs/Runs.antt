@@ -1,11 +1,11 @@
 -- The run of a tape.
 use Rattle.std.specs.Prelude.{◌≡◌, ℕ, List}
 use Rattle.xm_model.specs.Component.{Content}
-use Rattle.xm_model.specs.Lists.{content_at}
+use Rattle.xm_model.specs.Views.{content_at}
 use Rattle.xm_model.specs.Net.{Network}
 use Rattle.xm_model.specs.Run.{IsRun}
 use Rattle.xm_model.specs.Signals.{Signals}
-use Rattle.xm_model.specs.declared.parts.Cell.{Cell}
+use Rattle.xm_model.specs.declared.state.Cell.{Cell}
 use Rattle.xm_tape.specs.Taped.{Taped, chosen, cycles_of, rows_of}
 use Rattle.xm_trace.specs.Moves.{round_moves}
 use Rattle.xm_trace.specs.declared.trace.Move.{Move}

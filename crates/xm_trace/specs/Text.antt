@@ -2,7 +2,7 @@
 use Rattle.std.specs.Prelude.{◌≡◌, ℕ, zero, suc, ◌+◌, List, [], ◌++◌, length, codes, decimal}
 use Rattle.std.specs.List.{flat_map}
 use Rattle.xm_model.specs.Component.{Content}
-use Rattle.xm_model.specs.Lines.{line, name_at}
+use Rattle.xm_model.specs.TextLines.{line, name_at}
 use Rattle.xm_model.specs.Naming.{Naming}
 use Rattle.xm_model.specs.Net.{Network}
 use Rattle.xm_model.specs.Run.{moves}

@@ -1,9 +1,9 @@
 //! What stands before the colour of a move, made once for each channel.
 
 ghost use Rattle.std.specs.Prelude.{◌≡◌, IfOk};
-ghost use Rattle.xm_model.specs.Lines.{name_at};
+ghost use Rattle.xm_model.specs.TextLines.{name_at};
 ghost use Rattle.xm_model.specs.Naming.{texts_of};
-ghost use Rattle.xm_trace.specs.Labels.{AreLabels};
+ghost use Rattle.xm_trace.specs.Inner.Labels.{AreLabels};
 ghost use Rattle.xm_trace.specs.Text.{move_label};
 
 use std::alloc::Global;

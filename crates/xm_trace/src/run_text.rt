@@ -33,7 +33,7 @@ impl Model for RunText {
 
     ghost Value = { RunTextState };
 
-    ghost use Rattle.xm_trace.specs.Table.{IsTable};
+    ghost use Rattle.xm_trace.specs.Inner.Table.{IsTable};
 
     ghost view = { λ it. record {
       cycles = it.cycles;

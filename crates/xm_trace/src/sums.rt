@@ -1,9 +1,9 @@
 //! How often each colour moves on each channel.
 
 ghost use Rattle.std.specs.Prelude.{◌≡◌, ℕ, ◌+◌, ◌^◌, ◌<◌, ◌≤◌, ◌&&◌, cond, nat_eq, replicate, IfOk};
-ghost use Rattle.xm_model.specs.Sizes.{most_channels, most_colours};
+ghost use Rattle.xm_model.specs.Limits.{most_channels, most_colours};
 ghost use Rattle.xm_trace.specs.Sums.{AreSums, sum_at, sum_in};
-ghost use Rattle.xm_trace.specs.Table.{IsTable};
+ghost use Rattle.xm_trace.specs.Inner.Table.{IsTable};
 
 use crate::trace::Move;
 use std::alloc::Global;

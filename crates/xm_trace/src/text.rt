@@ -2,14 +2,14 @@
 
 ghost use Rattle.std.specs.Prelude.{◌≡◌, ℕ, ◌+◌, ◌^◌, ◌<◌, ◌≤◌, ◌==◌, ◌++◌, drop, decimal, length, IfOk, OnOk};
 ghost use Rattle.std.specs.List.{flat_map, prefix_len};
-ghost use Rattle.xm_model.specs.Lines.{line};
+ghost use Rattle.xm_model.specs.TextLines.{line};
 ghost use Rattle.xm_model.specs.Naming.{naming_of};
 ghost use Rattle.xm_model.specs.Signals.{Signals};
-ghost use Rattle.xm_model.specs.Sizes.{most_channels, most_colours};
-ghost use Rattle.xm_trace.specs.Labels.{AreLabels};
+ghost use Rattle.xm_model.specs.Limits.{most_channels, most_colours};
+ghost use Rattle.xm_trace.specs.Inner.Labels.{AreLabels};
 ghost use Rattle.xm_trace.specs.Moves.{round_moves};
 ghost use Rattle.xm_trace.specs.Sums.{sum_at};
-ghost use Rattle.xm_trace.specs.Table.{IsTable};
+ghost use Rattle.xm_trace.specs.Inner.Table.{IsTable};
 ghost use Rattle.xm_trace.specs.Text.{channel_sums, end_line, move_text, round_lines, run_text, sum_line, sum_lines};
 
 use crate::labels::{label_at, labels_of};

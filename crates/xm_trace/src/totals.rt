@@ -2,7 +2,7 @@
 
 ghost use Rattle.std.specs.Prelude.{◌≡◌, ◌<◌, ◌++◌, IfOk, OnOk};
 ghost use Rattle.xm_trace.specs.Sums.{sum_at};
-ghost use Rattle.xm_trace.specs.Table.{IsTable};
+ghost use Rattle.xm_trace.specs.Inner.Table.{IsTable};
 ghost use Rattle.xm_trace.specs.RunTextState.{channel_totals, total_if};
 ghost use Rattle.xm_trace.specs.RunTextState as spec;
 

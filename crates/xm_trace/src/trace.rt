@@ -1,9 +1,9 @@
 //! The moves of a run.
 
 ghost use Rattle.std.specs.Prelude.{◌≡◌, ◌+◌, ◌-◌, ◌*◌, ◌^◌, ◌<◌, ◌≤◌, ◌++◌, length, IfOk, OnOk, OnErr};
-ghost use Rattle.xm_model.specs.Lists.{signals_of};
+ghost use Rattle.xm_model.specs.Views.{signals_of};
 ghost use Rattle.xm_model.specs.Signals.{only_if};
-ghost use Rattle.xm_model.specs.Sizes.{most_channels};
+ghost use Rattle.xm_model.specs.Limits.{most_channels};
 ghost use Rattle.xm_step.specs.Roomy.{IsRoomy, SameRooms};
 ghost use Rattle.xm_tape.specs.Taped.{cycles_of};
 ghost use Rattle.xm_trace.specs.Moves.{cycle_moves, moved_on};

@@ -1,9 +1,9 @@
 use Rattle.std.proofs.Common.{◌≡◌, ◌<◌, ◌+◌, ◌-◌, ◌^◌, ◌++◌, ◌∙◌, ℕ, List, ap, ap₂, arith, sym, refl}
 use Rattle.std.proofs.lemmas.List.{append-nil}
-use Rattle.xm_io.specs.Appending.{Appends-then}
+use Rattle.xm_io.specs.Lemmas.Appending.{Appends-then}
 use Rattle.xm_model.specs.Naming.{naming_of}
 use Rattle.xm_tape.specs.Taped.{cycles_of}
-use Rattle.xm_trace.specs.Joining.{follows_run, lines_joined, moved_next, rest_of}
+use Rattle.xm_trace.specs.Lemmas.Joining.{follows_run, lines_joined, moved_next, rest_of}
 use Rattle.xm_trace.specs.Text.{end_text, round_lines}
 use Rattle.xm_commands.proofs.Fronts.{appends_nothing, appends_same, front_more, front_of, on_err, on_err_goes, on_ok_goes}
 use Rattle.xm_commands.proofs.running.write_run.Goals as goal

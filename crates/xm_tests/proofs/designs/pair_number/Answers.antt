@@ -3,7 +3,7 @@ use Rattle.xm_colours.specs.Family.{colours_at}
 use Rattle.xm_tests.proofs.designs.pair_number.Goals as goal
 use Rattle.xm_model.specs.Component.{Queue, component_of}
 use Rattle.xm_model.specs.Net.{HasPrim, Network}
-use Rattle.xm_model.specs.Run.{IsIn}
+use Rattle.xm_model.specs.Membership.{IsIn}
 
 pub queue_pair-requires : goal.queue_pair-requires
 queue_pair-requires c =

@@ -3,8 +3,8 @@ use Rattle.std.proofs.lemmas.List.{take_all}
 use Rattle.std.proofs.lemmas.List.Elements.{All-map, All-more}
 use Rattle.std.specs.List.{All}
 use Rattle.xm_model.specs.Component.{component_of}
-use Rattle.xm_model.specs.declared.parts.Primitive.{Primitive}
-use Rattle.xm_tests.specs.Fitting.{Fits}
+use Rattle.xm_model.specs.declared.primitive.Primitive.{Primitive}
+use Rattle.xm_tests.specs.Inner.Fitting.{Fits}
 use Rattle.xm_tests.proofs.nets.all_fit.Goals as goal
 
 pub loop-prim-preserved : goal.loop-prim-preserved

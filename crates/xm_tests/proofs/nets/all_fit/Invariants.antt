@@ -1,7 +1,7 @@
 use Rattle.std.proofs.Common.{take, map}
 use Rattle.std.specs.List.{All}
 use Rattle.xm_model.specs.Component.{component_of}
-use Rattle.xm_tests.specs.Fitting.{Fits}
+use Rattle.xm_tests.specs.Inner.Fitting.{Fits}
 use Rattle.xm_tests.proofs.nets.all_fit.Given as goal
 
 abbrev pub invariant-loop-prim : goal.invariant-loop-prim

@@ -1,5 +1,5 @@
 use Rattle.std.proofs.Common.{◌<◌, ◌+◌, ◌^◌, arith}
-use Rattle.xm_trace.specs.Joining.{moved_next}
+use Rattle.xm_trace.specs.Lemmas.Joining.{moved_next}
 use Rattle.xm_tests.proofs.runs.is_run_of.Goals as goal
 
 -- the first round follows a text that has had no cycle

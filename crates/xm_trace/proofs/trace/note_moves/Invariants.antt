@@ -1,5 +1,5 @@
 use Rattle.std.proofs.Common.{◌≡◌, ◌≤◌, ◌+◌, ◌++◌, length}
-use Rattle.xm_model.specs.Lists.{signals_of}
+use Rattle.xm_model.specs.Views.{signals_of}
 use Rattle.xm_trace.specs.Moves.{cycle_moves}
 use Rattle.xm_trace.proofs.trace.note_moves.Given as goal
 

@@ -1,6 +1,6 @@
 use Rattle.std.proofs.Common.{◌≡◌, ◌≤◌, ◌<◌, ◌+◌, ◌-◌, ◌∙◌, ◌++◌, ap, arith, length, List, suc}
-use Rattle.xm_model.specs.Lists.{signals_of}
-use Rattle.xm_model.specs.declared.parts.Wire.{Wire}
+use Rattle.xm_model.specs.Views.{signals_of}
+use Rattle.xm_model.specs.declared.state.Wire.{Wire}
 use Rattle.xm_tape.specs.Taped.{cycles_of}
 use Rattle.xm_trace.proofs.Running.{moves_go, state_goes}
 use Rattle.xm_trace.specs.Moves.{cycle_moves}
