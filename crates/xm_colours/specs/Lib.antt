@@ -2,4 +2,5 @@ pub mod Allowing
 pub mod Cuts
 pub mod Family
 pub mod Inner
+pub mod Lemmas
 pub mod Pairs

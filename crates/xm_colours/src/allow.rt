@@ -46,7 +46,8 @@ fn lesser(it: ColourFault, other: ColourFault) -> ColourFault
 
 /// The first of what was found in two lists, one after the other.
 fn first_of_both(found: Option<ColourFault>, other: Option<ColourFault>) -> Option<ColourFault>
-    ensures { (colours : ℕ → Items ℕ) (xs ys : Items Allowed) → FoundFirst colours xs found → FoundFirst colours ys other
+    ensures { (colours : ℕ → Items ℕ) (xs ys : Items Allowed)
+        → FoundFirst colours xs found → FoundFirst colours ys other
         → FoundFirst colours (xs ++ ys) result }
 {
     match (found, other) {

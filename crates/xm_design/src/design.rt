@@ -2,20 +2,76 @@
 
 ghost use Rattle.std.specs.Prelude.{◌≡◌, ◌<◌, ℕ, length, map, slice_get, IfOk, Some};
 ghost use Rattle.xm_colours.specs.Allowing.{AllowsAll};
-ghost use Rattle.xm_colours.specs.Family.{colours_at};
+ghost use Rattle.xm_colours.specs.Family.{AreColours, colours_at};
 ghost use Rattle.xm_colours.specs.Pairs.{queue_pairs};
+ghost use Rattle.xm_design.specs.Designed.{IsColourRefused};
+ghost use Rattle.xm_design.specs.Numbers.{AreTables};
 ghost use Rattle.xm_model.specs.Views.{oracles_below};
 ghost use Rattle.xm_model.specs.Naming.{allowed_of};
 ghost use Rattle.xm_model.specs.Membership.{IsIn};
+ghost use Rattle.xm_order.specs.Dependence.{IsOrder};
+ghost use Rattle.xm_order.specs.Loop.{IsLoop};
 
 use crate::fault::NetFault;
-use crate::steps::{Tables, allowed_colours, order_of, tables_of};
-use crate::tasks::Task;
+use crate::numbers::{Numbers, numbers_of};
+use crate::tasks::{Task, tasks_of};
 use std::alloc::Global;
 use std::marker::Model;
-use xm_colours::Colours;
+use xm_colours::{Colours, allowed, infer};
 use xm_model::{Allow, List, Net, OutOfMemory, Prim};
-use xm_order::Order;
+use xm_order::{Order, OrderFault, order};
+
+/// What later loops look up: each signal with the primitive that makes it, and the numbers.
+#[derive(Drop)]
+struct Tables {
+    tasks: List<Task>,
+    numbers: Numbers,
+}
+
+/// The colours of the net, where the list refuses none of them.
+fn allowed_colours(alloc: Global, net: &Net, allow: &List<Allow>) -> Result<Colours, NetFault>
+    ensures whole { IfOk result (λ colours. length colours ≡ net.now.channels) }
+    ensures colours { IfOk result (λ colours. AreColours net.now (colours_at colours)) }
+    ensures allowed { IfOk result (λ colours. AllowsAll (colours_at colours) (map allowed_of allow.now.items)) }
+    ensures refused { (fault : _) → result ≡ Err (NetFault.Allow fault)
+        → IsColourRefused net.now (map allowed_of allow.now.items) fault.channel fault.colour }
+    ensures unlooped { (found : _) → result ≡ Err (NetFault.CombLoop found) → ⊥ }
+{
+    let colours = infer(alloc, net)?;
+    match allowed(net, &colours, allow) {
+        Ok(()) => Ok(colours),
+        Err(fault) => Err(NetFault::Allow(fault)),
+    }
+}
+
+/// An order of its signals, or a loop of their dependence.
+fn order_of(alloc: Global, net: &Net) -> Result<Order, NetFault>
+    ensures ok { IfOk result (λ order. IsOrder net.now order) }
+    ensures looped { (found : _) → result ≡ Err (NetFault.CombLoop found) → IsLoop net.now found.items }
+    ensures allowed { (fault : _) → result ≡ Err (NetFault.Allow fault) → ⊥ }
+{
+    match order(alloc, net) {
+        Ok(order) => Ok(order),
+        Err(OrderFault::CombLoop(found)) => Err(NetFault::CombLoop(found)),
+        Err(OrderFault::OutOfMemory) => Err(NetFault::OutOfMemory),
+    }
+}
+
+/// The tables of a net with these colours and this order of its signals.
+fn tables_of(
+    alloc: Global,
+    net: &Net,
+    colours: &Colours,
+    order: &Order,
+) -> Result<Tables, OutOfMemory>
+    requires { IsOrder net.now order.now }
+    ensures { IfOk result (λ tables. AreTables net.now (colours_at colours.now) order.now
+        tables.numbers.oracles.items tables.numbers.pairs.items tables.numbers.oracle_count tables.tasks.items) }
+{
+    let numbers = numbers_of(alloc, net, colours)?;
+    let tasks = tasks_of(alloc, net, order.signals().as_slice())?;
+    Ok(Tables { tasks, numbers })
+}
 
 /// A net with its colours and an order of its signals. A contract sees the three.
 #[derive(Drop)]
@@ -50,7 +106,8 @@ impl Design {
     pub fn new(alloc: Global, net: Net, allow: &List<Allow>) -> Result<Design, NetFault>
         ensures net { IfOk result (λ design. design.net ≡ net) }
         ensures design { IfOk result IsDesigned }
-        ensures allowed { IfOk result (λ design. AllowsAll (colours_at design.colours) (map allowed_of allow.now.items)) }
+        ensures allowed { IfOk result (λ design. AllowsAll (colours_at design.colours)
+            (map allowed_of allow.now.items)) }
         ensures refused { (fault : _) → result ≡ Err (NetFault.Allow fault)
             → IsColourRefused net (map allowed_of allow.now.items) fault.channel fault.colour }
         ensures looped { (found : _) → result ≡ Err (NetFault.CombLoop found)
@@ -125,7 +182,8 @@ impl Design {
     /// The number of the pair of a queue and a colour of its output, among all queue pairs.
     pub fn queue_pair(&self, queue: u32, colour: u8) -> u32
         requires { IsQueuePair self.now queue colour }
-        ensures { slice_get (queue_pairs (colours_at self.now.colours) 0 self.now.net.prims) result ≡ Some (queue, colour) }
+        ensures { slice_get (queue_pairs (colours_at self.now.colours) 0 self.now.net.prims) result
+            ≡ Some (queue, colour) }
     {
         match self.net.prim(queue) {
             Prim::Queue { out, .. } => {

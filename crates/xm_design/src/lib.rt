@@ -5,7 +5,6 @@ mod design;
 mod fault;
 mod laws;
 mod numbers;
-mod steps;
 mod tasks;
 
 pub use design::Design;

@@ -20,63 +20,41 @@ abbrev pub Reads : Component → Signal → Type 0
 Reads m (signal.Offer c) = HasInput m c
 Reads m (signal.Ready c) = HasOutput m c
 
+-- the primitive gives the one signal and reads the other
+ends : (m : Component) (σ τ : Signal) → Needs m σ τ → Gives m σ × Reads m τ
+ends m σ τ Dependence.function_offer = (function_output, function_input)
+ends m σ τ Dependence.function_ready = (function_input, function_output)
+ends m σ τ Dependence.fork_offer_a_in = (fork_output_a, fork_input)
+ends m σ τ Dependence.fork_offer_a_b = (fork_output_a, fork_output_b)
+ends m σ τ Dependence.fork_offer_b_in = (fork_output_b, fork_input)
+ends m σ τ Dependence.fork_offer_b_a = (fork_output_b, fork_output_a)
+ends m σ τ Dependence.fork_ready_a = (fork_input, fork_output_a)
+ends m σ τ Dependence.fork_ready_b = (fork_input, fork_output_b)
+ends m σ τ Dependence.join_offer_a = (join_output, join_input_a)
+ends m σ τ Dependence.join_offer_b = (join_output, join_input_b)
+ends m σ τ Dependence.join_ready_a_out = (join_input_a, join_output)
+ends m σ τ Dependence.join_ready_a_b = (join_input_a, join_input_b)
+ends m σ τ Dependence.join_ready_b_out = (join_input_b, join_output)
+ends m σ τ Dependence.join_ready_b_a = (join_input_b, join_input_a)
+ends m σ τ Dependence.switch_offer_a = (switch_output_a, switch_input)
+ends m σ τ Dependence.switch_offer_b = (switch_output_b, switch_input)
+ends m σ τ Dependence.switch_ready_in = (switch_input, switch_input)
+ends m σ τ Dependence.switch_ready_a = (switch_input, switch_output_a)
+ends m σ τ Dependence.switch_ready_b = (switch_input, switch_output_b)
+ends m σ τ Dependence.merge_offer_a = (merge_output, merge_input_a)
+ends m σ τ Dependence.merge_offer_b = (merge_output, merge_input_b)
+ends m σ τ Dependence.merge_ready_a_a = (merge_input_a, merge_input_a)
+ends m σ τ Dependence.merge_ready_a_b = (merge_input_a, merge_input_b)
+ends m σ τ Dependence.merge_ready_a_out = (merge_input_a, merge_output)
+ends m σ τ Dependence.merge_ready_b_a = (merge_input_b, merge_input_a)
+ends m σ τ Dependence.merge_ready_b_b = (merge_input_b, merge_input_b)
+ends m σ τ Dependence.merge_ready_b_out = (merge_input_b, merge_output)
+
 pub given : (m : Component) (σ τ : Signal) → Needs m σ τ → Gives m σ
-given m σ τ Dependence.function_offer = function_output
-given m σ τ Dependence.function_ready = function_input
-given m σ τ Dependence.fork_offer_a_in = fork_output_a
-given m σ τ Dependence.fork_offer_a_b = fork_output_a
-given m σ τ Dependence.fork_offer_b_in = fork_output_b
-given m σ τ Dependence.fork_offer_b_a = fork_output_b
-given m σ τ Dependence.fork_ready_a = fork_input
-given m σ τ Dependence.fork_ready_b = fork_input
-given m σ τ Dependence.join_offer_a = join_output
-given m σ τ Dependence.join_offer_b = join_output
-given m σ τ Dependence.join_ready_a_out = join_input_a
-given m σ τ Dependence.join_ready_a_b = join_input_a
-given m σ τ Dependence.join_ready_b_out = join_input_b
-given m σ τ Dependence.join_ready_b_a = join_input_b
-given m σ τ Dependence.switch_offer_a = switch_output_a
-given m σ τ Dependence.switch_offer_b = switch_output_b
-given m σ τ Dependence.switch_ready_in = switch_input
-given m σ τ Dependence.switch_ready_a = switch_input
-given m σ τ Dependence.switch_ready_b = switch_input
-given m σ τ Dependence.merge_offer_a = merge_output
-given m σ τ Dependence.merge_offer_b = merge_output
-given m σ τ Dependence.merge_ready_a_a = merge_input_a
-given m σ τ Dependence.merge_ready_a_b = merge_input_a
-given m σ τ Dependence.merge_ready_a_out = merge_input_a
-given m σ τ Dependence.merge_ready_b_a = merge_input_b
-given m σ τ Dependence.merge_ready_b_b = merge_input_b
-given m σ τ Dependence.merge_ready_b_out = merge_input_b
+given m σ τ needs = (ends m σ τ needs).0
 
 pub read : (m : Component) (σ τ : Signal) → Needs m σ τ → Reads m τ
-read m σ τ Dependence.function_offer = function_input
-read m σ τ Dependence.function_ready = function_output
-read m σ τ Dependence.fork_offer_a_in = fork_input
-read m σ τ Dependence.fork_offer_a_b = fork_output_b
-read m σ τ Dependence.fork_offer_b_in = fork_input
-read m σ τ Dependence.fork_offer_b_a = fork_output_a
-read m σ τ Dependence.fork_ready_a = fork_output_a
-read m σ τ Dependence.fork_ready_b = fork_output_b
-read m σ τ Dependence.join_offer_a = join_input_a
-read m σ τ Dependence.join_offer_b = join_input_b
-read m σ τ Dependence.join_ready_a_out = join_output
-read m σ τ Dependence.join_ready_a_b = join_input_b
-read m σ τ Dependence.join_ready_b_out = join_output
-read m σ τ Dependence.join_ready_b_a = join_input_a
-read m σ τ Dependence.switch_offer_a = switch_input
-read m σ τ Dependence.switch_offer_b = switch_input
-read m σ τ Dependence.switch_ready_in = switch_input
-read m σ τ Dependence.switch_ready_a = switch_output_a
-read m σ τ Dependence.switch_ready_b = switch_output_b
-read m σ τ Dependence.merge_offer_a = merge_input_a
-read m σ τ Dependence.merge_offer_b = merge_input_b
-read m σ τ Dependence.merge_ready_a_a = merge_input_a
-read m σ τ Dependence.merge_ready_a_b = merge_input_b
-read m σ τ Dependence.merge_ready_a_out = merge_output
-read m σ τ Dependence.merge_ready_b_a = merge_input_a
-read m σ τ Dependence.merge_ready_b_b = merge_input_b
-read m σ τ Dependence.merge_ready_b_out = merge_output
+read m σ τ needs = (ends m σ τ needs).1
 
 module _ (net : Network) (wired : IsCounted net) where
   given_below : (p : ℕ) (m : Component) (σ : Signal) → HasPrim net p m → Gives m σ → channel_of σ < net.channels

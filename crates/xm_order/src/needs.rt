@@ -1,6 +1,6 @@
 //! The signals on which a signal depends: at most three.
 
-ghost use Rattle.std.specs.Prelude.{◌≡◌, ◌<◌, IfOk};
+ghost use Rattle.std.specs.Prelude.{◌≡◌, ◌≢◌, ◌<◌, IfOk};
 ghost use Rattle.xm_model.specs.Component.{component_of};
 ghost use Rattle.xm_model.specs.Ports.{HasOutput, HasInput};
 ghost use Rattle.xm_order.specs.Dependence.{Depends, Needs, channel_of};
@@ -20,6 +20,14 @@ fn listed(alloc: Global, signals: &[Signal]) -> Result<SmallVec<Signal, 3>, OutO
     Ok(needs)
 }
 
+/// The other of the channels `a` and `b` than this one.
+fn other_of(a: u32, b: u32, channel: u32) -> u32
+    ensures first { channel ≡ a → result ≡ b }
+    ensures second { channel ≢ a → result ≡ a }
+{
+    if channel == a { b } else { a }
+}
+
 /// The signals that the offer of a primitive on channel `c` needs.
 fn offer_needs(alloc: Global, prim: &Prim, c: u32) -> Result<SmallVec<Signal, 3>, OutOfMemory>
     requires { HasOutput (component_of prim.now) c }
@@ -31,7 +39,7 @@ fn offer_needs(alloc: Global, prim: &Prim, c: u32) -> Result<SmallVec<Signal, 3>
             listed(alloc, &[Signal::Offer(*input)])
         }
         Prim::Fork { input, a, b, .. } => {
-            let other = if c == *a { *b } else { *a };
+            let other = other_of(*a, *b, c);
             listed(alloc, &[Signal::Offer(*input), Signal::Ready(other)])
         }
         Prim::Join { a, b, .. } | Prim::Merge { a, b, .. } => {
@@ -50,7 +58,7 @@ fn ready_needs(alloc: Global, prim: &Prim, c: u32) -> Result<SmallVec<Signal, 3>
         Prim::Function { out, .. } => listed(alloc, &[Signal::Ready(*out)]),
         Prim::Fork { a, b, .. } => listed(alloc, &[Signal::Ready(*a), Signal::Ready(*b)]),
         Prim::Join { a, b, out, .. } => {
-            let other = if c == *a { *b } else { *a };
+            let other = other_of(*a, *b, c);
             listed(alloc, &[Signal::Ready(*out), Signal::Offer(other)])
         }
         Prim::Switch { input, a, b, .. } => listed(

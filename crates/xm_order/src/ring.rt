@@ -13,7 +13,8 @@ use xm_model::{List, OutOfMemory};
 fn least(ring: &[Signal]) -> usize
     requires { 0 < length ring.now }
     ensures within { result < length ring.now }
-    ensures least { (k : ℕ) (σ τ : _) → slice_get ring.now result ≡ Some σ → slice_get ring.now k ≡ Some τ → rank σ ≤ rank τ }
+    ensures least { (k : ℕ) (σ τ : _) → slice_get ring.now result ≡ Some σ → slice_get ring.now k ≡ Some τ
+        → rank σ ≤ rank τ }
 {
     let mut best = 0;
     for (k, it) in ring.iter().enumerate() {

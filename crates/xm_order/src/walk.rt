@@ -89,7 +89,8 @@ impl Walk {
         requires { rank it < length self.old.progress.items }
         ensures done { self.new.done.items ≡ self.old.done.items }
         ensures path { OnOk result (self.new.path.items ≡ self.old.path.items ++ it ∷ []) }
-        ensures progress { OnOk result (self.new.progress.items ≡ slice_set self.old.progress.items (rank it) reached.OnPath) }
+        ensures progress { OnOk result (self.new.progress.items
+            ≡ slice_set self.old.progress.items (rank it) reached.OnPath) }
     {
         self.path.push(it)?;
         put_progress(self.progress.as_mut_slice(), it, Progress::OnPath);
@@ -103,7 +104,8 @@ impl Walk {
         requires progress { rank last < length self.old.progress.items }
         ensures done { OnOk result (self.new.done.items ≡ self.old.done.items ++ last ∷ []) }
         ensures path { OnOk result (self.new.path.items ≡ take (length self.old.path.items - 1) self.old.path.items) }
-        ensures progress { OnOk result (self.new.progress.items ≡ slice_set self.old.progress.items (rank last) reached.Done) }
+        ensures progress { OnOk result (self.new.progress.items
+            ≡ slice_set self.old.progress.items (rank last) reached.Done) }
     {
         self.done.push(last)?;
         let count = self.path.len();
@@ -165,7 +167,8 @@ impl Walk {
         requires path { self.old.path.items ≡ [] }
         ensures walk { OnOk result (IsWalk net.now self.new) }
         ensures path { OnOk result (self.new.path.items ≡ []) }
-        ensures done { OnOk result ((σ : _) → channel_of σ < net.now.channels → HasProgress self.new.progress.items σ reached.Done) }
+        ensures done { OnOk result ((σ : _) → channel_of σ < net.now.channels
+            → HasProgress self.new.progress.items σ reached.Done) }
         ensures looped { (found : _) → result ≡ Err (OrderFault.CombLoop found) → IsLoop net.now found.items }
     {
         for c in 0..net.channels() {

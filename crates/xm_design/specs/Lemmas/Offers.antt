@@ -65,21 +65,21 @@ merge_again B x (Some y) x' y' d h ax by = let e : y' ≡ Some y = by y refl ref
 merge_again B (Some x) None x' y' d h ax by = let e : x' ≡ Some x = ax x refl refl in rw e h
 merge_again B None None x' y' d h ax by = cc
 
+-- a side that is granted offers
+merge_grants : (pref : Side) (x y : Option ℕ) →
+    (is_a (grant pref x y) ≡ true → is_some x ≡ true) × (is_b (grant pref x y) ≡ true → is_some y ≡ true)
+merge_grants A (Some x) y = (λ h. refl, λ h. cc)
+merge_grants A None (Some y) = (λ h. cc, λ h. refl)
+merge_grants A None None = (λ h. cc, λ h. cc)
+merge_grants B x (Some y) = (λ h. cc, λ h. refl)
+merge_grants B (Some x) None = (λ h. refl, λ h. cc)
+merge_grants B None None = (λ h. cc, λ h. cc)
+
 pub merge_grants_a : (pref : Side) (x y : Option ℕ) → is_a (grant pref x y) ≡ true → is_some x ≡ true
-merge_grants_a A (Some x) y h = refl
-merge_grants_a A None (Some y) h = cc
-merge_grants_a A None None h = cc
-merge_grants_a B x (Some y) h = cc
-merge_grants_a B (Some x) None h = refl
-merge_grants_a B None None h = cc
+merge_grants_a pref x y h = (merge_grants pref x y).0 h
 
 pub merge_grants_b : (pref : Side) (x y : Option ℕ) → is_b (grant pref x y) ≡ true → is_some y ≡ true
-merge_grants_b A (Some x) y h = cc
-merge_grants_b A None (Some y) h = refl
-merge_grants_b A None None h = cc
-merge_grants_b B x (Some y) h = refl
-merge_grants_b B (Some x) None h = cc
-merge_grants_b B None None h = cc
+merge_grants_b pref x y h = (merge_grants pref x y).1 h
 
 pub to_side_a_some : (to_a : List Bool) (o : Option ℕ) (d : ℕ) → to_side_a to_a o ≡ Some d →
     (o ≡ Some d) × (to_side_b to_a o ≡ None)

@@ -11,5 +11,7 @@ use Rattle.xm_order.specs.declared.signal.Signal.TheVariants as signal
 
 -- one primitive of the channel gives the signal of ψ its value, from φ
 abbrev pub MadeBy : Network → (ℕ → Content) → (ℕ → Choice) → Signals → Signals → Signal → Type 0
-MadeBy net s w φ ψ (signal.Offer c) = (d : InitiatorOf net c) × (ψ.offer c ≡ offer_side d.prim (s d.place) (w d.place) φ c)
-MadeBy net s w φ ψ (signal.Ready c) = (d : TargetOf net c) × (ψ.ready c ≡ ready_side d.prim (s d.place) (w d.place) φ c)
+MadeBy net s w φ ψ (signal.Offer c) =
+    (d : InitiatorOf net c) × (ψ.offer c ≡ offer_side d.prim (s d.place) (w d.place) φ c)
+MadeBy net s w φ ψ (signal.Ready c) =
+    (d : TargetOf net c) × (ψ.ready c ≡ ready_side d.prim (s d.place) (w d.place) φ c)

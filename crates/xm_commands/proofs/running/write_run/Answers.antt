@@ -96,7 +96,7 @@ returns-clause-whole g c = λ text is.
     let all : c.loop-from.from ≡ n = omega (arith, c.loop-from.invariant.within, c.loop-from-test.false, c.cycles-cycles.ensures.number) in
     let made : c.in_ok-end.end.items ≡ end_text names is.frames n = c.in_ok-end.ensures is.frames (c.loop-from.invariant.had is.states is.frames is.run) ∙ ap (end_text names is.frames) (c.loop-from.invariant.cycles ∙ all) in
     let same : round_lines names is.frames 0 c.loop-from.from ++ c.in_ok-end.end.items ≡ text =
-    (ap₂ (λ (x y : List ℕ). x ++ y) (ap (round_lines names is.frames 0) all) made ∙ sym (is.same ∙ c.rounds_join.ensures.ended names is.frames n)) in
+    (ap₂ (λ (x y : List ℕ). x ++ y) (ap (round_lines names is.frames 0) all) made ∙ sym is.same) in
     on_ok_goes c.write_text-2.result
     (λ h. appends_same (g.K.Sink.held c.args.out.now) (g.K.Sink.held c.write_text-2.new.out) _ _ same (Appends-then (g.K.Sink.held c.args.out.now) (g.K.Sink.held c.loop-from.out) (g.K.Sink.held c.write_text-2.new.out) _ _ (c.loop-from.invariant.written is.states is.frames is.run) h))
     c.write_text-2.ensures.whole
@@ -108,7 +108,7 @@ returns-clause-front g c = λ text is.
     let all : c.loop-from.from ≡ n = omega (arith, c.loop-from.invariant.within, c.loop-from-test.false, c.cycles-cycles.ensures.number) in
     let made : c.in_ok-end.end.items ≡ end_text names is.frames n = c.in_ok-end.ensures is.frames (c.loop-from.invariant.had is.states is.frames is.run) ∙ ap (end_text names is.frames) (c.loop-from.invariant.cycles ∙ all) in
     let same : round_lines names is.frames 0 c.loop-from.from ++ c.in_ok-end.end.items ≡ text =
-    (ap₂ (λ (x y : List ℕ). x ++ y) (ap (round_lines names is.frames 0) all) made ∙ sym (is.same ∙ c.rounds_join.ensures.ended names is.frames n)) in
+    (ap₂ (λ (x y : List ℕ). x ++ y) (ap (round_lines names is.frames 0) all) made ∙ sym is.same) in
     on_err_goes c.write_text-2.result
     (λ h. front_more (g.K.Sink.held c.args.out.now) (g.K.Sink.held c.loop-from.out) (g.K.Sink.held c.write_text-2.new.out) _ _ _ text (sym same ∙ sym (append-nil _)) (c.loop-from.invariant.written is.states is.frames is.run) h)
     c.write_text-2.ensures.front
