@@ -3,7 +3,7 @@
 ghost use Rattle.std.specs.Prelude.{◌≡◌, [], ◌∷◌, ◌++◌, ◌⊎◌, ℕ, map, IfErr, OnOk, List as Items};
 ghost use Rattle.xm_colours.specs.Allowing.{AllowsAll, IsFirstRefused, IsUpTo};
 ghost use Rattle.xm_colours.specs.Family.{AreColours, colours_at};
-ghost use Rattle.xm_colours.specs.Refusing.{FoundFirst};
+ghost use Rattle.xm_colours.specs.Inner.Refusing.{FoundFirst};
 ghost use Rattle.xm_model.specs.Naming.{Allowed, allowed_of};
 
 use crate::colours::Colours;

@@ -15,25 +15,27 @@ pub struct Colours {
 /// A contract sees each channel's colours, rising.
 impl Model for Colours {
     ghost use Rattle.std.specs.Prelude.{ℕ, List as Items, ◌≤◌, length};
-    ghost use Rattle.xm_colours.specs.Words.{sets_of};
+    ghost use Rattle.xm_colours.specs.Inner.Words.{sets_of};
+    ghost use Rattle.xm_model.specs.Limits.{most_channels};
 
     ghost Value = { Items (Items ℕ) };
 
     ghost view = { λ c. sets_of c.words.items };
 
-    ghost invariant = { λ c. length c.words.items ≤ 8192 };
+    ghost invariant = { λ c. length c.words.items ≤ most_channels };
 }
 
 impl Colours {
     ghost use Rattle.std.specs.Prelude.{◌≡◌, ◌↔◌, ◌≤◌, length, slice_get, IsTrue};
     ghost use Rattle.xm_colours.specs.Family.{colours_at};
     ghost use Rattle.xm_colours.specs.Pairs.{pairs};
-    ghost use Rattle.xm_colours.specs.Words.{set_of, sets_of};
-    ghost use Rattle.xm_model.specs.Run.{IsIn};
+    ghost use Rattle.xm_colours.specs.Inner.Words.{set_of, sets_of};
+    ghost use Rattle.xm_model.specs.Membership.{IsIn};
+    ghost use Rattle.xm_model.specs.Limits.{most_channels, most_colours};
 
     /// The sets of these words.
     pub(crate) fn of(words: List<u64>) -> Colours
-        requires { length words.items ≤ 8192 }
+        requires { length words.items ≤ most_channels }
         ensures { result ≡ sets_of words.items }
     {
         Colours { words }
@@ -60,7 +62,7 @@ impl Colours {
     /// How many colours the channel has.
     pub fn count(&self, channel: u32) -> u32
         ensures number { result ≡ length (colours_at self.now channel) }
-        ensures few { result ≤ 64 }
+        ensures few { result ≤ most_colours }
     {
         count_below(self.word(channel), 64)
     }

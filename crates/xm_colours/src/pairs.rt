@@ -2,7 +2,7 @@
 
 ghost use Rattle.std.specs.Prelude.{◌≡◌, ◌++◌};
 ghost use Rattle.std.specs.Option.{option_to_list};
-ghost use Rattle.xm_colours.specs.Spreading.{Covers, sent};
+ghost use Rattle.xm_colours.specs.Inner.Spreading.{Covers, sent};
 ghost use Rattle.xm_model.specs.Component.{component_of};
 ghost use Rattle.xm_model.specs.Signals.{at_side};
 

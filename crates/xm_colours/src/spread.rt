@@ -4,8 +4,8 @@
 ghost use Rattle.std.specs.Prelude.{◌≡◌, ℕ, ◌^◌, ◌<◌, [], ◌∷◌, ◌++◌, length, map, replicate, slice_set, IfOk, OnOk};
 ghost use Rattle.std.specs.Option.{option_to_list};
 ghost use Rattle.xm_colours.specs.Family.{AreColours, colours_at};
-ghost use Rattle.xm_colours.specs.Spreading.{Adds, Covers, Fit, HasGiven, IsSpread, given, pair, sent, work_left};
-ghost use Rattle.xm_colours.specs.Words.{Has};
+ghost use Rattle.xm_colours.specs.Inner.Spreading.{Adds, Covers, Fit, HasGiven, IsSpread, given, pair, sent, work_left};
+ghost use Rattle.xm_colours.specs.Inner.Words.{Has};
 ghost use Rattle.xm_model.specs.Component.{component_of};
 
 use crate::colours::Colours;

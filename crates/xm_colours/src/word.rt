@@ -1,9 +1,9 @@
 //! Sets of up to 64 colours, as words: bit `d` of a word says that colour `d` is in.
 
 ghost use Rattle.std.specs.Prelude.{◌≡◌, ◌≢◌, ◌↔◌, ℕ, ◌<◌, ◌≤◌, true, length, IfNone, IfSome};
-ghost use Rattle.xm_colours.specs.Refusing.{IsFirstMissing, IsWithin};
-ghost use Rattle.xm_colours.specs.Words.{holds, set_below};
-ghost use Rattle.xm_model.specs.Owner.{In};
+ghost use Rattle.xm_colours.specs.Inner.Refusing.{IsFirstMissing, IsWithin};
+ghost use Rattle.xm_colours.specs.Inner.Words.{holds, set_below};
+ghost use Rattle.xm_model.specs.Membership.{IsIn};
 
 /// Whether the colour is in.
 pub fn contains(word: u64, colour: u8) -> bool
@@ -40,7 +40,7 @@ pub fn count_below(word: u64, n: u8) -> u32
 
 /// The set of these colours; those from 64 on are left out.
 pub fn set_from(colours: &[u8]) -> u64
-    ensures { (d : ℕ) → d < 64 → (holds result d ≡ true) ↔ In d colours.now }
+    ensures { (d : ℕ) → d < 64 → (holds result d ≡ true) ↔ IsIn colours.now d }
 {
     let mut word = 0;
     for colour in colours {

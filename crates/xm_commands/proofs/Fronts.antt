@@ -1,10 +1,10 @@
 -- A front of a text, from what was appended of it.
-use Rattle.std.proofs.Common.{◌≡◌, ℕ, ◌+◌, ◌≤◌, List, [], ◌++◌, take, length, Option, Some, None, Result, Ok, Err, refl, sym, ap, ◌∙◌, append_assoc, arith, subst}
+use Rattle.std.proofs.Common.{◌≡◌, ℕ, ◌+◌, ◌≤◌, List, [], ◌++◌, take, length, Option, Some, None, Result, Ok, Err, sym, ap, ◌∙◌, append_assoc, arith, subst}
 use Rattle.std.proofs.Math.Seq.{take-append_seam, take-append-add}
 use Rattle.std.proofs.lemmas.List.{append-nil, length-append, take-append-le}
 use Rattle.std.specs.Prelude.{OnErr, OnOk}
 use Rattle.std.specs.Io.KnownBytes.{Appends}
-use Rattle.xm_io.specs.Appending.{Appends-then}
+use Rattle.xm_io.specs.Lemmas.Appending.{Appends-then}
 use Rattle.xm_io.specs.Bytes.{AppendsFront}
 
 pub on_err : {T F : Type 0} {X : Type 0} (r : Result T F) → X → OnErr r X

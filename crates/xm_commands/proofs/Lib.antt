@@ -1,7 +1,9 @@
 mod Checked
 mod Fronts
+mod OneAnswer
+mod OneColours
+mod OneText
 mod Ran
 mod Refusing
-pub mod Telling
 mod Whys
 mod Written

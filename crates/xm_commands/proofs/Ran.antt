@@ -1,6 +1,7 @@
 -- The text of a tape's run is the output of `run`.
 use Rattle.std.proofs.Common.{◌≡◌, ℕ, List, Option, Result, Ok, Err, Some, None, Bor, ap, ap₂, sym, ◌∙◌, refl, subst, inr}
-use Rattle.std.specs.Prelude.{IfErr, OnErr, option_copied, option_map}
+use Rattle.std.specs.Io.KnownBytes.{Appends}
+use Rattle.std.specs.Prelude.{IfErr, OnErr, OnOk, option_copied, option_map}
 use Rattle.serde_json.specs.Data.{Data}
 use Rattle.serde_json.specs.View.{view}
 use Rattle.serde_json.specs.declared.value.Value.{Value}
@@ -10,9 +11,9 @@ use Rattle.xm_order.specs.OneRun.{OneRun}
 use Rattle.xm_tape.specs.Reading.{tape_in}
 use Rattle.xm_tape.specs.Taped.{Taped, chosen, cycles_of, rows_of}
 use Rattle.xm_trace.specs.Text.{IsTextOfRun, run_text}
-use Rattle.xm_commands.specs.Answered.{Change, IsCause, IsWriteFault}
-use Rattle.xm_commands.specs.Causes.{IsOutput, of_run}
-use Rattle.xm_commands.specs.Prepared.{IsPrepared}
+use Rattle.xm_commands.specs.Output.{IsOutput, of_run}
+use Rattle.xm_commands.specs.Inner.WhyEnded.{Change, HasAnswered, IsUnharmed, IsWriteFault}
+use Rattle.xm_commands.specs.Inner.Prepared.{IsPrepared}
 use Rattle.xm_commands.specs.declared.command.Command.TheVariants as command
 use Rattle.xm_commands.specs.declared.prepared.Prepared.{Prepared}
 use Rattle.xm_commands.specs.declared.refusal.Refusal.{Refusal}
@@ -42,13 +43,15 @@ ran one_run bytes it is tape value seen read =
       is_output = of_run is.doc it.design tape text is.read is.design (ap₂ tape_in (sym is.design.net) (sym is.tape ∙ sym seen) ∙ read) of_doc;
     }
 
-pub run_failed : {T K : Type 0} (r : Result T Refusal) (bytes text : List ℕ) (sink : Change K) → IsOutput bytes command.Run text → IfErr r (IsWriteFault sink.faults sink.later) → OnErr r (AppendsFront sink.held sink.now text) → IfErr r (IsCause bytes command.Run sink)
-run_failed (Ok x) bytes text sink is cause front = tt
-run_failed (Err refusal.Words) bytes text sink is cause front = cause
-run_failed (Err (refusal.Document line)) bytes text sink is cause front = absurd cause
-run_failed (Err (refusal.Net line)) bytes text sink is cause front = absurd cause
-run_failed (Err (refusal.Tape line)) bytes text sink is cause front = absurd cause
-run_failed (Err refusal.Read) bytes text sink is cause front = cause
-run_failed (Err refusal.Write) bytes text sink is cause front = (cause, (text, is, front))
-run_failed (Err refusal.Memory) bytes text sink is cause front = inr (text, is, front)
-run_failed (Err refusal.TooLong) bytes text sink is cause front = cause
+-- how a run ended, from the answer of the call that wrote its text
+pub run_ended : {T K : Type 0} (r : Result T Refusal) (bytes text : List ℕ) (sink : Change K) → IsOutput bytes command.Run text → OnOk r (Appends sink.bytes_before sink.bytes_after text)
+    → OnErr r (AppendsFront sink.bytes_before sink.bytes_after text) → OnOk r (IsUnharmed sink) → IfErr r (IsWriteFault sink.faults_before sink.faults_after) → HasAnswered bytes command.Run sink r
+run_ended (Ok x) bytes text sink is whole front unharmed cause = ((text, is, whole), unharmed)
+run_ended (Err refusal.Words) bytes text sink is whole front unharmed cause = cause
+run_ended (Err (refusal.Document line)) bytes text sink is whole front unharmed cause = absurd cause
+run_ended (Err (refusal.Net line)) bytes text sink is whole front unharmed cause = absurd cause
+run_ended (Err (refusal.Tape line)) bytes text sink is whole front unharmed cause = absurd cause
+run_ended (Err refusal.Read) bytes text sink is whole front unharmed cause = cause
+run_ended (Err refusal.Write) bytes text sink is whole front unharmed cause = (cause, (text, is, front))
+run_ended (Err refusal.Memory) bytes text sink is whole front unharmed cause = (cause, inr (text, is, front))
+run_ended (Err refusal.TooLong) bytes text sink is whole front unharmed cause = cause

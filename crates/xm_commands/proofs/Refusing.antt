@@ -6,21 +6,21 @@ use Rattle.xm_design.specs.declared.fault.NetFault.TheVariants as net_faults
 use Rattle.xm_model.specs.Naming.{Allowed, Naming}
 use Rattle.xm_model.specs.Net.{Network}
 use Rattle.xm_shape.specs.Fault.{Fault}
-use Rattle.xm_shape.specs.Gives.{Fails}
+use Rattle.xm_shape.specs.Gives.{Fails, fault_of}
 use Rattle.xm_shape.specs.declared.fault.DocFault.{DocFault}
 use Rattle.xm_shape.specs.declared.fault.DocFault.TheVariants as doc_faults
 use Rattle.xm_netlist.specs.Doc.{Doc}
 use Rattle.xm_netlist.specs.Reading.{document_in}
 use Rattle.xm_report.specs.Lines.{colour_line, document_line, loop_line, tape_line}
-use Rattle.xm_report.specs.Seen.{document_fault, tape_fault}
 use Rattle.xm_tape.specs.Fault as tape
 use Rattle.xm_tape.specs.Gives as reading
 use Rattle.xm_tape.specs.Reading.{tape_in}
 use Rattle.xm_tape.specs.declared.fault.TapeFault.{TapeFault}
 use Rattle.xm_tape.specs.declared.fault.TapeFault.TheVariants as tape_faults
-use Rattle.xm_commands.specs.Answered.{Change, IsCause}
-use Rattle.xm_commands.specs.Causes.{IsDesignOf, Refuses, of_colour, of_document, of_loop, of_tape}
-use Rattle.xm_commands.specs.Prepared.{IsNetFault, IsRefusedAs, is_of_wiring, is_want, is_want_of_tape, net_fault_line}
+use Rattle.xm_commands.specs.Output.{IsDesignOf}
+use Rattle.xm_commands.specs.Refusal.{Refuses, of_colour, of_document, of_loop, of_tape}
+use Rattle.xm_commands.specs.Inner.WhyEnded.{Change, IsCause, IsUnharmed, IsUntouched}
+use Rattle.xm_commands.specs.Inner.Prepared.{IsNetFault, IsRefusedAs, is_of_wiring, is_want, is_want_of_tape, net_fault_line}
 use Rattle.xm_commands.specs.declared.command.Command.{Command}
 use Rattle.xm_commands.specs.declared.command.Command.TheVariants as commands
 use Rattle.xm_commands.specs.declared.refusal.Refusal.{Refusal}
@@ -28,7 +28,7 @@ use Rattle.xm_commands.specs.declared.refusal.Refusal.TheVariants as refusal
 
 -- the line is that of the fault
 abbrev pub Lines : DocFault → List ℕ → Type 0
-Lines fault line = (it : Fault) → document_fault fault ≡ Some it → line ≡ document_line it
+Lines fault line = (it : Fault) → fault_of fault ≡ Some it → line ≡ document_line it
 
 module _ (bytes : List ℕ) (command : Command) (line : List ℕ) where
   pub document_refused : (fault : DocFault) → Fails fault (document_in bytes) → Lines fault line → is_want fault ≡ false → is_of_wiring fault ≡ false → Refuses bytes command 3 line
@@ -71,7 +71,7 @@ net_fault r net allow net_faults.OutOfMemory is refused looped = tt
 
 -- the line is that of the tape's fault
 abbrev pub TapeLines : TapeFault → List ℕ → Type 0
-TapeLines fault line = (it : tape.Fault) → tape_fault fault ≡ Some it → line ≡ tape_line it
+TapeLines fault line = (it : tape.Fault) → reading.fault_of fault ≡ Some it → line ≡ tape_line it
 
 pub tape_refused : (bytes line : List ℕ) (doc : Doc) (it : Designed) (fault : TapeFault) → document_in bytes ≡ Ok doc → IsDesignOf doc it → reading.Fails fault (tape_in doc.net doc.tape) → TapeLines fault line → is_want_of_tape fault ≡ false → Refuses bytes commands.Run 5 line
 tape_refused bytes line doc it (tape_faults.TapeShape path) read design fails lines some = subst (Refuses bytes commands.Run 5) (sym (lines _ refl)) (of_tape doc it _ read design fails)
@@ -81,12 +81,12 @@ tape_refused bytes line doc it (tape_faults.BadMark row oracle) read design fail
 tape_refused bytes line doc it tape_faults.OutOfMemory read design fails lines some = absurd cc
 
 -- what the refusal of a document says of the sink, which it leaves
-pub refused_cause : {K : Type 0} (bytes : List ℕ) (it : Command) (sink : Change K) (r : Refusal) → IsRefusedAs bytes it r → sink.new ≡ sink.old → IsCause bytes it sink r
-refused_cause bytes it sink refusal.Words is same = is
-refused_cause bytes it sink (refusal.Document line) is same = (is, same)
-refused_cause bytes it sink (refusal.Net line) is same = (is, same)
-refused_cause bytes it sink (refusal.Tape line) is same = (is, same)
-refused_cause bytes it sink refusal.Read is same = is
-refused_cause bytes it sink refusal.Write is same = absurd is
-refused_cause bytes it sink refusal.Memory is same = inl same
-refused_cause bytes it sink refusal.TooLong is same = is
+pub refused_cause : {K : Type 0} (bytes : List ℕ) (it : Command) (sink : Change K) (r : Refusal) → IsRefusedAs bytes it r → IsUntouched sink → IsUnharmed sink → IsCause bytes it sink r
+refused_cause bytes it sink refusal.Words is same unharmed = is
+refused_cause bytes it sink (refusal.Document line) is same unharmed = (is, same)
+refused_cause bytes it sink (refusal.Net line) is same unharmed = (is, same)
+refused_cause bytes it sink (refusal.Tape line) is same unharmed = (is, same)
+refused_cause bytes it sink refusal.Read is same unharmed = is
+refused_cause bytes it sink refusal.Write is same unharmed = absurd is
+refused_cause bytes it sink refusal.Memory is same unharmed = (unharmed, inl same)
+refused_cause bytes it sink refusal.TooLong is same unharmed = is

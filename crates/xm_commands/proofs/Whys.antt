@@ -1,25 +1,170 @@
--- What each clause of the top call says, from why a command ended with another status than 0.
-use Rattle.std.proofs.Common.{◌≡◌, ◌≤◌, ℕ, true, false, List, ◌++◌, length, Option, Some, None, Ok, refl, sym, ap, ◌∙◌, subst, arith}
+-- What each clause of the top call says, from how the program ended.
+use Rattle.std.proofs.Common.{◌≡◌, ◌≢◌, ◌≤◌, ℕ, true, false, List, ◌++◌, length, Option, Some, None, Result, Ok, Err, refl, sym, ap, ◌∙◌, subst, arith}
 use Rattle.std.proofs.lemmas.List.{append-nil, length-append}
 use Rattle.std.proofs.Common.{◌⊎◌, inl, inr}
-use Rattle.std.specs.Io.KnownBytes.{Appends}
-use Rattle.xm_colours.specs.Family.{IsClosed, colours_at}
-use Rattle.xm_design.specs.Designed.{Designed}
-use Rattle.xm_io.specs.Bytes.{AppendsFront, ReadsWhole, TakesAtMost, TakesMoreThan}
-use Rattle.xm_io.specs.Causes.{Rose}
-use Rattle.xm_netlist.specs.Doc.{Doc}
-use Rattle.xm_netlist.specs.Reading.{document_in}
-use Rattle.xm_order.specs.Loop.{IsLoop, NoLoop}
-use Rattle.xm_tape.specs.Reading.{tape_in}
-use Rattle.xm_tape.specs.Taped.{Taped}
-use Rattle.xm_commands.specs.Answered.{Ends, IsCause, IsWhy}
-use Rattle.xm_commands.specs.Answers.{Gave, IsRefused, PrintsFront, Tells, is_of_input, is_status, line_of, status_of}
-use Rattle.xm_commands.specs.Answers as plain
-use Rattle.xm_commands.specs.Causes.{IsDesignOf, IsOutput, Refuses, of_check, of_colour, of_document, of_loop, of_run, of_tape}
+use Rattle.std.specs.Prelude.{IsSomeAnd}
+use Rattle.xm_commands.proofs.OneAnswer.{excludes}
+use Rattle.xm_commands.specs.Output.{IsOutput}
+use Rattle.xm_commands.specs.Status.{Gave, IsRefused, IsTold, Prints, PrintsFront, Tells, is_of_input, is_status, line_of, most_bytes, status_of}
+use Rattle.xm_commands.specs.Status as plain
+use Rattle.xm_commands.specs.Inner.WhyEnded.{Change, HasAnswered, HasEnded, IsUnharmed, IsUntouched, IsWhy, IsWhyCalled}
 use Rattle.xm_commands.specs.declared.command.Command.{Command}
-use Rattle.xm_commands.specs.declared.command.Command.TheVariants as command
 use Rattle.xm_commands.specs.declared.refusal.Refusal.{Refusal}
 use Rattle.xm_commands.specs.declared.refusal.Refusal.TheVariants as refusal
+use Rattle.xm_io.specs.Bytes.{ReadsWhole, TakesAtMost, TakesMoreThan}
+use Rattle.xm_io.specs.Faults.{Rose}
+use Rattle.xm_order.specs.Loop.{NoLoop}
+
+-- ---- from the bytes to the source
+
+pub ok_is_no_err : {T E : Type 0} (x : T) (e : E) → Ok x ≢ Err e
+ok_is_no_err x e = λ same. cc
+
+-- the command has ended for the bytes that were read
+pub read_whole : {T S K : Type 0} (it : Command) (source : Change S) (sink : Change K) (bytes : List ℕ) (r : Result T Refusal) → Gave source.bytes_before source.bytes_after bytes → IsUnharmed source
+    → HasAnswered bytes it sink r → HasEnded (Some it) source sink r
+read_whole it source sink bytes (Ok done) gave unharmed answered = (record { bytes = bytes; gave = gave; printed = answered.0 }, unharmed, answered.1)
+read_whole it source sink bytes (Err refusal.Words) gave unharmed answered = answered
+read_whole it source sink bytes (Err (refusal.Document line)) gave unharmed answered = record { bytes = bytes; gave = gave; refused = answered.0; unharmed = unharmed; quiet = answered.1 }
+read_whole it source sink bytes (Err (refusal.Net line)) gave unharmed answered = record { bytes = bytes; gave = gave; refused = answered.0; unharmed = unharmed; quiet = answered.1 }
+read_whole it source sink bytes (Err (refusal.Tape line)) gave unharmed answered = record { bytes = bytes; gave = gave; refused = answered.0; unharmed = unharmed; quiet = answered.1 }
+read_whole it source sink bytes (Err refusal.Read) gave unharmed answered = absurd answered
+read_whole it source sink bytes (Err refusal.Write) gave unharmed answered = (answered.0, unharmed, record { bytes = bytes; gave = gave; printed = answered.1 })
+read_whole it source sink bytes (Err refusal.Memory) gave unharmed answered = (
+  unharmed,
+  answered.0,
+  elim answered.1 [
+    | inl same ↦ inl same
+    | inr some ↦ inr (record { bytes = bytes; gave = gave; printed = some })
+  ],
+)
+read_whole it source sink bytes (Err refusal.TooLong) gave unharmed answered = absurd answered
+
+-- ---- from the source to the words
+
+-- no memory for the words
+pub no_memory : {S K : Type 0} (called : Option Command) (source : Change S) (sink : Change K) → IsUntouched source → IsUntouched sink → IsUnharmed source → IsUnharmed sink
+    → IsWhyCalled called source sink refusal.Memory
+no_memory None source sink same_source same_sink unharmed_source unharmed_sink = (tt, same_source, same_sink, unharmed_source, unharmed_sink)
+no_memory (Some it) source sink same_source same_sink unharmed_source unharmed_sink = (unharmed_source, unharmed_sink, inl same_sink)
+
+-- a command was called
+pub some_called : (P : Command → Type 0) (called : Option Command) → IsSomeAnd called P → called ≡ None → ⊥
+some_called P None is none = is
+some_called P (Some it) is none = cc
+
+pub called_is : (P : Command → Type 0) (called : Option Command) (it : Command) → IsSomeAnd called P → called ≡ Some it → P it
+called_is P None it is same = absurd is
+called_is P (Some other) it is same = let e : other ≡ it = cc in subst P e is
+
+-- ---- what a refusal says of each clause
+
+module _ {S K : Type 0} (source : Change S) (sink : Change K) where
+  pub why_words : (called : Option Command) (r : Refusal) → IsWhyCalled called source sink r → status_of r ≡ 2 → called ≡ None
+  why_words None r why is = refl
+  why_words (Some it) refusal.Words why is = absurd why
+  why_words (Some it) _ why is = absurd (omega arith)
+
+  pub why_unknown : (called : Option Command) (r : Refusal) → IsWhyCalled called source sink r → called ≡ None → (status_of r ≡ 2) ⊎ (status_of r ≡ 9)
+  why_unknown None refusal.Words why none = inl refl
+  why_unknown None refusal.Memory why none = inr refl
+  why_unknown None _ why none = absurd why.0
+  why_unknown (Some it) r why none = cc
+
+  pub why_unread : (called : Option Command) (r : Refusal) → IsWhyCalled called source sink r → called ≡ None → IsUntouched source
+  why_unread None r why none = why.1
+  why_unread (Some it) r why none = cc
+
+  pub why_unwritten : (called : Option Command) (r : Refusal) → IsWhyCalled called source sink r → called ≡ None → IsUntouched sink
+  why_unwritten None r why none = why.2
+  why_unwritten (Some it) r why none = cc
+
+  pub why_read : (called : Option Command) (r : Refusal) → IsWhyCalled called source sink r → status_of r ≡ 6 → Rose source.faults_before source.faults_after
+  why_read None refusal.Read why is = absurd why.0
+  why_read (Some it) refusal.Read why is = why.0
+  why_read _ _ why is = absurd (omega arith)
+
+  pub why_read_within : (called : Option Command) (r : Refusal) → IsWhyCalled called source sink r → status_of r ≡ 6 → TakesAtMost most_bytes source.bytes_before source.bytes_after
+  why_read_within None refusal.Read why is = absurd why.0
+  why_read_within (Some it) refusal.Read why is = why.1
+  why_read_within _ _ why is = absurd (omega arith)
+
+  pub why_read_unharmed : (called : Option Command) (r : Refusal) → IsWhyCalled called source sink r → status_of r ≢ 6 → IsUnharmed source
+  why_read_unharmed None r why other = why.3
+  why_read_unharmed (Some it) refusal.Words why other = absurd why
+  why_read_unharmed (Some it) (refusal.Document line) why other = why.unharmed
+  why_read_unharmed (Some it) (refusal.Net line) why other = why.unharmed
+  why_read_unharmed (Some it) (refusal.Tape line) why other = why.unharmed
+  why_read_unharmed (Some it) refusal.Read why other = absurd (other refl)
+  why_read_unharmed (Some it) refusal.Write why other = why.1
+  why_read_unharmed (Some it) refusal.Memory why other = why.0
+  why_read_unharmed (Some it) refusal.TooLong why other = why.1
+
+  pub why_too_long : (called : Option Command) (r : Refusal) → IsWhyCalled called source sink r → status_of r ≡ 10 → TakesMoreThan most_bytes source.bytes_before source.bytes_after
+  why_too_long None refusal.TooLong why is = absurd why.0
+  why_too_long (Some it) refusal.TooLong why is = why.0
+  why_too_long _ _ why is = absurd (omega arith)
+
+  pub why_write : (called : Option Command) (r : Refusal) → IsWhyCalled called source sink r → status_of r ≡ 7 → Rose sink.faults_before sink.faults_after
+  why_write None refusal.Write why is = absurd why.0
+  why_write (Some it) refusal.Write why is = why.0
+  why_write _ _ why is = absurd (omega arith)
+
+  pub why_write_unharmed : (called : Option Command) (r : Refusal) → IsWhyCalled called source sink r → (IsUntouched sink → IsUnharmed sink) → status_of r ≢ 7 → IsUnharmed sink
+  why_write_unharmed None r why harmless other = why.4
+  why_write_unharmed (Some it) refusal.Words why harmless other = absurd why
+  why_write_unharmed (Some it) (refusal.Document line) why harmless other = harmless why.quiet
+  why_write_unharmed (Some it) (refusal.Net line) why harmless other = harmless why.quiet
+  why_write_unharmed (Some it) (refusal.Tape line) why harmless other = harmless why.quiet
+  why_write_unharmed (Some it) refusal.Read why harmless other = harmless why.2
+  why_write_unharmed (Some it) refusal.Write why harmless other = absurd (other refl)
+  why_write_unharmed (Some it) refusal.Memory why harmless other = why.1
+  why_write_unharmed (Some it) refusal.TooLong why harmless other = harmless why.2
+
+  pub why_quiet : (called : Option Command) (r : Refusal) → IsWhyCalled called source sink r → status_of r ≢ 7 → status_of r ≢ 9 → IsUntouched sink
+  why_quiet None r why not_write not_memory = why.2
+  why_quiet (Some it) refusal.Words why not_write not_memory = absurd why
+  why_quiet (Some it) (refusal.Document line) why not_write not_memory = why.quiet
+  why_quiet (Some it) (refusal.Net line) why not_write not_memory = why.quiet
+  why_quiet (Some it) (refusal.Tape line) why not_write not_memory = why.quiet
+  why_quiet (Some it) refusal.Read why not_write not_memory = why.2
+  why_quiet (Some it) refusal.Write why not_write not_memory = absurd (not_write refl)
+  why_quiet (Some it) refusal.Memory why not_write not_memory = absurd (not_memory refl)
+  why_quiet (Some it) refusal.TooLong why not_write not_memory = why.2
+
+  -- where the words call a command
+  module _ (it : Command) where
+    pub why_front : (r : Refusal) → IsWhy it source sink r → status_of r ≡ 7 → PrintsFront it source.bytes_before source.bytes_after sink.bytes_before sink.bytes_after
+    why_front refusal.Write why is = why.2
+    why_front _ why is = absurd (omega arith)
+
+    pub why_memory : (r : Refusal) → IsWhy it source sink r → status_of r ≡ 9 → IsUntouched sink ⊎ PrintsFront it source.bytes_before source.bytes_after sink.bytes_before sink.bytes_after
+    why_memory refusal.Memory why is = why.2
+    why_memory _ why is = absurd (omega arith)
+
+    pub why_refused : (r : Refusal) (held now : Option (List ℕ)) (before after : ℕ) → IsWhy it source sink r → IsTold (line_of r) held now before after → is_of_input (status_of r) ≡ true
+        → IsRefused it (status_of r) source.bytes_before source.bytes_after held now before after
+    why_refused (refusal.Document line) held now before after why told is = record { bytes = why.bytes; gave = why.gave; line = line.items; refused = why.refused; told = told }
+    why_refused (refusal.Net line) held now before after why told is = record { bytes = why.bytes; gave = why.gave; line = line.items; refused = why.refused; told = told }
+    why_refused (refusal.Tape line) held now before after why told is = record { bytes = why.bytes; gave = why.gave; line = line.items; refused = why.refused; told = told }
+    why_refused _ held now before after why told is = cc
+
+pub why_called : {S K : Type 0} (source : Change S) (sink : Change K) (called : Option Command) (it : Command) (r : Refusal) → called ≡ Some it → IsWhyCalled called source sink r → IsWhy it source sink r
+why_called source sink called it r same why = subst (λ (x : Option Command). IsWhyCalled x source sink r) same why
+
+pub why_known : (r : Refusal) → is_status (status_of r) ≡ true
+why_known refusal.Words = refl
+why_known _ = refl
+
+pub why_told : (r : Refusal) (held now : Option (List ℕ)) (before after : ℕ) → is_of_input (status_of r) ≡ false → IsTold (line_of r) held now before after → Tells (status_of r) held now before after
+why_told refusal.Words held now before after other told = record { line = line_of refusal.Words; is_line = plain.words; told = told }
+why_told refusal.Read held now before after other told = record { line = line_of refusal.Read; is_line = plain.read; told = told }
+why_told refusal.Write held now before after other told = record { line = line_of refusal.Write; is_line = plain.write; told = told }
+why_told refusal.Memory held now before after other told = record { line = line_of refusal.Memory; is_line = plain.memory; told = told }
+why_told refusal.TooLong held now before after other told = record { line = line_of refusal.TooLong; is_line = plain.too_long; told = told }
+why_told _ held now before after other told = cc
+
+-- ---- where there is an output
 
 -- a source has one text to its end
 same_bytes : (left rest : Option (List ℕ)) (bytes read : List ℕ) → left ≡ Some bytes → ReadsWhole left rest read → read ≡ bytes
@@ -34,65 +179,14 @@ not_longer limit (Some xs) (Some ys) bytes is within more =
     let same : xs ≡ bytes = cc in
     omega (arith, within, more.1, ap length same, ap length more.2, length-append more.0 ys)
 
--- what there is to a command's output
-record HasDesign (bytes : List ℕ) : Type 0 where
-  doc : Doc
-  it : Designed
-  read : document_in bytes ≡ Ok doc
-  design : IsDesignOf doc it
-
-has_design : {bytes : List ℕ} {it : Command} {text : List ℕ} → IsOutput bytes it text → HasDesign bytes
-has_design (of_check doc it read design) = record { doc = doc; it = it; read = read; design = design }
-has_design (of_run doc it taped text read design tape run) = record { doc = doc; it = it; read = read; design = design }
-
-record HasTape (bytes : List ℕ) : Type 0 where
-  doc : Doc
-  taped : Taped
-  read : document_in bytes ≡ Ok doc
-  tape : tape_in doc.net doc.tape ≡ Ok taped
-
-has_tape : {bytes text : List ℕ} → IsOutput bytes command.Run text → HasTape bytes
-has_tape (of_run doc it taped text read design tape run) = record { doc = doc; taped = taped; read = read; tape = tape }
-
-one_document : (bytes : List ℕ) (doc other : Doc) → document_in bytes ≡ Ok doc → document_in bytes ≡ Ok other → doc ≡ other
-one_document bytes doc other p q = cc
-
--- what is refused has no output
-excludes : NoLoop → {bytes : List ℕ} {it : Command} {status : ℕ} {line text : List ℕ} → Refuses bytes it status line → IsOutput bytes it text → ⊥
-excludes none (of_document fault failed) is = (let has = has_design is in let read = has.read in cc)
-excludes none {bytes = bytes} (of_colour doc c d read refused) is =
-    let has = has_design is in
-    let design = subst (λ (x : Doc). IsDesignOf x has.it) (one_document bytes has.doc doc has.read read) has.design in
-    design.allowed c d
-    (refused.are_colours.least (colours_at has.it.colours) (subst (λ net. IsClosed net (colours_at has.it.colours)) design.net design.designed.colours.closed) c d refused.first.is_pair) refused.first.refused
-excludes none {bytes = bytes} (of_loop doc loop read refused) is =
-    let has = has_design is in
-    let design = subst (λ (x : Doc). IsDesignOf x has.it) (one_document bytes has.doc doc has.read read) has.design in
-    none has.it.net has.it.order loop design.designed.net design.designed.order (subst (λ net. IsLoop net loop) (sym design.net) refused.looped)
-excludes none {bytes = bytes} (of_tape doc it fault read design failed) is =
-    let has = has_tape is in
-    let same = one_document bytes has.doc doc has.read read in
-    let tape = subst (λ (x : Doc). tape_in x.net x.tape ≡ Ok has.taped) same has.tape in
-    cc
-
-module _ {K : Type 0} (limit : ℕ) (it : Command) (ends : Ends K) where
-  pub why_complete : NoLoop → (bytes text : List ℕ) → ends.left ≡ Some bytes → length bytes ≤ limit → IsOutput bytes it text → (Rose ends.harmed ends.later → ⊥) → (Rose ends.sink.faults ends.sink.later → ⊥) → (r : Refusal) → IsWhy limit it ends r → status_of r ≡ 9
+module _ {S K : Type 0} (it : Command) (source : Change S) (sink : Change K) where
+  pub why_complete : NoLoop → (bytes text : List ℕ) → source.bytes_before ≡ Some bytes → length bytes ≤ most_bytes → IsOutput bytes it text → (Rose source.faults_before source.faults_after → ⊥)
+      → (Rose sink.faults_before sink.faults_after → ⊥) → (r : Refusal) → IsWhy it source sink r → status_of r ≡ 9
   why_complete none bytes text is within output no_read no_write refusal.Words why = absurd why
-  why_complete none bytes text is within output no_read no_write (refusal.Document line) why = absurd (excludes none why.refused (subst (λ (x : List ℕ). IsOutput x it text) (sym (same_bytes ends.left ends.rest bytes why.bytes is why.gave.whole)) output))
-  why_complete none bytes text is within output no_read no_write (refusal.Net line) why = absurd (excludes none why.refused (subst (λ (x : List ℕ). IsOutput x it text) (sym (same_bytes ends.left ends.rest bytes why.bytes is why.gave.whole)) output))
-  why_complete none bytes text is within output no_read no_write (refusal.Tape line) why = absurd (excludes none why.refused (subst (λ (x : List ℕ). IsOutput x it text) (sym (same_bytes ends.left ends.rest bytes why.bytes is why.gave.whole)) output))
+  why_complete none bytes text is within output no_read no_write (refusal.Document line) why = absurd (excludes none why.refused (subst (λ (x : List ℕ). IsOutput x it text) (sym (same_bytes source.bytes_before source.bytes_after bytes why.bytes is why.gave.whole)) output))
+  why_complete none bytes text is within output no_read no_write (refusal.Net line) why = absurd (excludes none why.refused (subst (λ (x : List ℕ). IsOutput x it text) (sym (same_bytes source.bytes_before source.bytes_after bytes why.bytes is why.gave.whole)) output))
+  why_complete none bytes text is within output no_read no_write (refusal.Tape line) why = absurd (excludes none why.refused (subst (λ (x : List ℕ). IsOutput x it text) (sym (same_bytes source.bytes_before source.bytes_after bytes why.bytes is why.gave.whole)) output))
   why_complete none bytes text is within output no_read no_write refusal.Read why = absurd (no_read why.0)
   why_complete none bytes text is within output no_read no_write refusal.Write why = absurd (no_write why.0)
   why_complete none bytes text is within output no_read no_write refusal.Memory why = refl
-  why_complete none bytes text is within output no_read no_write refusal.TooLong why = absurd (not_longer limit ends.left ends.rest bytes is within why.0)
-
-pub why_told : (r : Refusal) (held now : Option (List ℕ)) (faults later : ℕ) → is_of_input (status_of r) ≡ false → AppendsFront held now (line_of r) → ((Rose faults later → ⊥) → Appends held now (line_of r))
-    → Tells (status_of r) held now faults later
-why_told refusal.Words held now faults later of told whole = record { line = line_of refusal.Words; is_line = plain.words; told = told; told_whole = whole }
-why_told (refusal.Document line) held now faults later of told whole = cc
-why_told (refusal.Net line) held now faults later of told whole = cc
-why_told (refusal.Tape line) held now faults later of told whole = cc
-why_told refusal.Read held now faults later of told whole = record { line = line_of refusal.Read; is_line = plain.read; told = told; told_whole = whole }
-why_told refusal.Write held now faults later of told whole = record { line = line_of refusal.Write; is_line = plain.write; told = told; told_whole = whole }
-why_told refusal.Memory held now faults later of told whole = record { line = line_of refusal.Memory; is_line = plain.memory; told = told; told_whole = whole }
-why_told refusal.TooLong held now faults later of told whole = record { line = line_of refusal.TooLong; is_line = plain.too_long; told = told; told_whole = whole }
+  why_complete none bytes text is within output no_read no_write refusal.TooLong why = absurd (not_longer most_bytes source.bytes_before source.bytes_after bytes is within why.0)

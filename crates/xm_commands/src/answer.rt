@@ -7,10 +7,9 @@ ghost use Rattle.xm_netlist.specs.Doc.{Doc};
 ghost use Rattle.xm_netlist.specs.Reading.{document_in};
 ghost use Rattle.xm_tape.specs.Gives as tape;
 ghost use Rattle.xm_tape.specs.Reading.{tape_in};
-ghost use Rattle.xm_commands.specs.Answered.{IsCause};
-ghost use Rattle.xm_commands.specs.Answers.{PrintsWhole};
-ghost use Rattle.xm_commands.specs.Causes.{IsDesignOf};
-ghost use Rattle.xm_commands.specs.Prepared.{IsPrepared, IsRefusedAs, is_want_of_tape};
+ghost use Rattle.xm_commands.specs.Output.{IsDesignOf};
+ghost use Rattle.xm_commands.specs.Inner.Prepared.{IsPrepared, IsRefusedAs, is_want_of_tape};
+ghost use Rattle.xm_commands.specs.Inner.WhyEnded.{HasAnswered, change};
 ghost use Rattle.xm_commands.specs.declared.command.Command.TheVariants as command;
 
 use crate::command::Command;
@@ -33,7 +32,8 @@ fn is_memory(fault: &TapeFault) -> bool
 
 /// The refusal of a tape.
 fn tape_refusal(alloc: Global, fault: &TapeFault) -> Refusal
-    ensures { (bytes : Items ℕ) (doc : Doc) (it : Designed) → document_in bytes ≡ Ok doc → IsDesignOf doc it → tape.Fails fault.now (tape_in doc.net doc.tape) → IsRefusedAs bytes command.Run result }
+    ensures { (bytes : Items ℕ) (doc : Doc) (design : Designed) → document_in bytes ≡ Ok doc → IsDesignOf doc design
+        → tape.Fails fault.now (tape_in doc.net doc.tape) → IsRefusedAs bytes command.Run result }
 {
     if is_memory(fault) {
         return Refusal::Memory;
@@ -47,15 +47,31 @@ fn tape_refusal(alloc: Global, fault: &TapeFault) -> Refusal
 /// Reads the tape and writes the text of its run.
 fn answer_run<K: Sink>(alloc: Global, prepared: &Prepared, out: &mut K) -> Result<(), Refusal>
     requires { IsNamed prepared.now.design.net (naming_of prepared.now.names) }
-    ensures ok { (bytes : Items ℕ) → IsPrepared bytes prepared.now → OnOk result (PrintsWhole bytes command.Run (K.held out.old) (K.held out.new)) }
-    ensures err { (bytes : Items ℕ) → IsPrepared bytes prepared.now
-        → IfErr result (IsCause bytes command.Run (record { old = out.old; new = out.new; held = K.held out.old; now = K.held out.new; faults = K.faults out.old; later = K.faults out.new })) }
+    ensures { (bytes : Items ℕ) → IsPrepared bytes prepared.now
+        → HasAnswered bytes command.Run (change K.held K.faults out.old out.new) result }
 {
     one_run();
     let _net = prepared.design.net();
     match read_tape(alloc, &prepared.design, prepared.tape.as_ref()) {
         Ok(tape) => write_run(alloc, &prepared.design, &prepared.names, &tape, out),
         Err(fault) => Err(tape_refusal(alloc, &fault)),
+    }
+}
+
+/// Writes the command's output for a document that was prepared.
+fn answer_prepared<K: Sink>(
+    alloc: Global,
+    command: Command,
+    prepared: &Prepared,
+    out: &mut K,
+) -> Result<(), Refusal>
+    requires { IsNamed prepared.now.design.net (naming_of prepared.now.names) }
+    ensures { (bytes : Items ℕ) → IsPrepared bytes prepared.now
+        → HasAnswered bytes command (change K.held K.faults out.old out.new) result }
+{
+    match command {
+        Command::Check => write_check(alloc, prepared, out),
+        Command::Run => answer_run(alloc, prepared, out),
     }
 }
 
@@ -66,15 +82,10 @@ pub fn answer<K: Sink>(
     bytes: &[u8],
     out: &mut K,
 ) -> Result<(), Refusal>
-    ensures ok { OnOk result (PrintsWhole bytes.now command (K.held out.old) (K.held out.new)) }
-    ensures err { IfErr result (IsCause bytes.now command (record { old = out.old; new = out.new; held = K.held out.old; now = K.held out.new; faults = K.faults out.old; later = K.faults out.new })) }
+    ensures { HasAnswered bytes.now command (change K.held K.faults out.old out.new) result }
 {
-    let prepared = match prepare(alloc, bytes) {
-        Ok(prepared) => prepared,
-        Err(refusal) => return Err(refusal),
-    };
-    match command {
-        Command::Check => write_check(alloc, &prepared, out),
-        Command::Run => answer_run(alloc, &prepared, out),
+    match prepare(alloc, bytes) {
+        Ok(prepared) => answer_prepared(alloc, command, &prepared, out),
+        Err(refusal) => Err(refusal),
     }
 }

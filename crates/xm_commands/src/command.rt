@@ -1,8 +1,7 @@
 //! The commands, and the words that call them.
 
 ghost use Rattle.std.specs.Prelude.{◌≡◌, IfOk};
-ghost use Rattle.xm_model.specs.Naming.{texts_of};
-ghost use Rattle.xm_commands.specs.Words.{command_in, command_named};
+ghost use Rattle.xm_commands.specs.Words.{command_named, command_of};
 
 use std::alloc::Global;
 use xm_io::Words;
@@ -29,8 +28,8 @@ fn named(word: &[u8]) -> Option<Command>
 }
 
 /// The command that the words call, where they are words that the program knows.
-pub fn command_of(alloc: Global, words: &Words) -> Result<Option<Command>, OutOfMemory>
-    ensures { IfOk result (λ called. called ≡ command_in (texts_of words.now.words.items)) }
+pub fn read_command(alloc: Global, words: &Words) -> Result<Option<Command>, OutOfMemory>
+    ensures { IfOk result (λ called. called ≡ command_of words.now) }
 {
     match words.words.as_slice() {
         [word, rest @ ..] => match read_options(alloc, &[], rest)? {

@@ -4,16 +4,14 @@
 
 mod answer;
 mod command;
+mod laws;
 mod prepared;
 mod refusal;
 mod running;
-#[cfg(test)]
-mod tests;
-#[cfg(test)]
-mod tests_documents;
 mod top;
 mod writing;
 
 pub use command::Command;
+pub use laws::{no_output_of_refused, one_output, one_refusal};
 pub use refusal::{Refusal, refuse};
 pub use top::plain;

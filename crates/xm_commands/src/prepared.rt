@@ -5,7 +5,7 @@ ghost use Rattle.xm_model.specs.Naming.{naming_of};
 ghost use Rattle.xm_shape.specs.Gives.{Fails};
 ghost use Rattle.xm_netlist.specs.Doc.{Doc};
 ghost use Rattle.xm_netlist.specs.Reading.{document_in};
-ghost use Rattle.xm_commands.specs.Prepared.{IsNetFault, IsPrepared, IsReadAs, IsRefusedAs, is_of_wiring, is_want, net_fault_line};
+ghost use Rattle.xm_commands.specs.Inner.Prepared.{IsNetFault, IsPrepared, IsReadAs, IsRefusedAs, is_of_wiring, is_want, net_fault_line};
 
 use crate::command::Command;
 use crate::refusal::Refusal;
@@ -68,7 +68,8 @@ fn net_line(alloc: Global, names: &Names, fault: &NetFault) -> Result<Text, OutO
 
 /// The refusal of a net that makes no design.
 fn net_refusal(alloc: Global, names: &Names, fault: &NetFault) -> Refusal
-    ensures { (bytes : Items ℕ) (it : Command) (doc : Doc) → document_in bytes ≡ Ok doc → naming_of names.now ≡ doc.names → IsNetFault doc.net doc.allow fault.now → IsRefusedAs bytes it result }
+    ensures { (bytes : Items ℕ) (it : Command) (doc : Doc) → document_in bytes ≡ Ok doc
+        → naming_of names.now ≡ doc.names → IsNetFault doc.net doc.allow fault.now → IsRefusedAs bytes it result }
 {
     match net_line(alloc, names, fault) {
         Ok(line) => Refusal::Net(line),

@@ -1,10 +1,8 @@
 //! Why the program refuses: a status and a line of error for each cause.
 
-ghost use Rattle.std.specs.Prelude.{◌≡◌, OnErr};
-ghost use Rattle.std.specs.Io.KnownBytes.{Appends};
-ghost use Rattle.xm_io.specs.Bytes.{AppendsFront};
-ghost use Rattle.xm_io.specs.Causes.{Rose};
-ghost use Rattle.xm_commands.specs.Answers.{line_of, status_of};
+ghost use Rattle.std.specs.Prelude.{◌≡◌};
+ghost use Rattle.xm_commands.specs.Status.{IsTold, line_of, status_of};
+ghost use Rattle.xm_commands.specs.declared.refusal.Refusal.TheVariants as refusals;
 
 use xm_io::{Sink, write_all};
 use xm_model::{OutOfMemory, Text};
@@ -31,10 +29,7 @@ pub enum Refusal {
 }
 
 impl From<OutOfMemory> for Refusal {
-    ghost use Rattle.std.specs.Prelude.{◌≡◌};
-    ghost use Rattle.xm_commands.specs.declared.refusal.Refusal.TheVariants as refusal;
-
-    ghost from_gives = { λ _ r. r ≡ refusal.Memory };
+    ghost from_gives = { λ _ r. r ≡ refusals.Memory };
 
     fn from(_: OutOfMemory) -> Refusal {
         Refusal::Memory
@@ -72,8 +67,8 @@ fn status(refusal: &Refusal) -> u8
 /// Writes the refusal's line of error, as far as the sink takes it, and answers its status.
 pub fn refuse<E: Sink>(err: &mut E, refusal: &Refusal) -> u8
     ensures status { result ≡ status_of refusal.now }
-    ensures told { AppendsFront (E.held err.old) (E.held err.new) (line_of refusal.now) }
-    ensures told_whole { ¬ (Rose (E.faults err.old) (E.faults err.new)) → Appends (E.held err.old) (E.held err.new) (line_of refusal.now) }
+    ensures told { IsTold (line_of refusal.now) (E.held err.old) (E.held err.new)
+        (E.faults err.old) (E.faults err.new) }
 {
     let _ = write_all(err, line(refusal));
     status(refusal)

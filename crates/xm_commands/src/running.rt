@@ -1,13 +1,13 @@
 //! A run that is written round by round.
 
-ghost use Rattle.std.specs.Prelude.{◌≡◌, ◌⊎◌, ◌+◌, ◌*◌, ◌^◌, ◌<◌, ◌≤◌, ℕ, List as Items, Err, IfErr, OnErr, OnOk, length};
+ghost use Rattle.std.specs.Prelude.{◌≡◌, ◌+◌, ◌*◌, ◌^◌, ◌<◌, ◌≤◌, ℕ, List as Items, IfErr, OnErr, OnOk, length};
 ghost use Rattle.std.specs.Io.KnownBytes.{Appends};
 ghost use Rattle.xm_io.specs.Bytes.{AppendsFront};
-ghost use Rattle.xm_io.specs.Causes.{Rose};
+ghost use Rattle.xm_io.specs.Faults.{Rose};
 ghost use Rattle.xm_model.specs.Naming.{naming_of};
 ghost use Rattle.xm_tape.specs.Taped.{cycles_of};
 ghost use Rattle.xm_trace.specs.Text.{IsTextOfRun};
-ghost use Rattle.xm_commands.specs.Answered.{IsWriteFault};
+ghost use Rattle.xm_commands.specs.Inner.WhyEnded.{IsWriteFault};
 
 use crate::refusal::Refusal;
 use crate::writing::write_text;
@@ -47,8 +47,11 @@ pub fn write_run<K: Sink>(
     requires channels { length names.now.channels.items ≡ design.now.net.channels }
     requires colours { length names.now.colours.items ≡ design.now.net.colours }
     requires room { cycles_of tape.now * design.now.net.channels < 2 ^ 32 }
-    ensures whole { (text : Items ℕ) → IsTextOfRun design.now.net (naming_of names.now) tape.now text → OnOk result (Appends (K.held out.old) (K.held out.new) text) }
-    ensures front { (text : Items ℕ) → IsTextOfRun design.now.net (naming_of names.now) tape.now text → OnErr result (AppendsFront (K.held out.old) (K.held out.new) text) }
+    ensures whole { (text : Items ℕ) → IsTextOfRun design.now.net (naming_of names.now) tape.now text
+        → OnOk result (Appends (K.held out.old) (K.held out.new) text) }
+    ensures front { (text : Items ℕ) → IsTextOfRun design.now.net (naming_of names.now) tape.now text
+        → OnErr result (AppendsFront (K.held out.old) (K.held out.new) text) }
+    ensures unharmed { OnOk result (K.faults out.new ≡ K.faults out.old) }
     ensures cause { IfErr result (IsWriteFault (K.faults out.old) (K.faults out.new)) }
 {
     rounds_follow();

@@ -7,8 +7,8 @@ use Rattle.xm_colours.specs.Family.{Rises}
 use Rattle.xm_colours.specs.Pairs.{queue_pairs, queue_pairs_at}
 use Rattle.xm_design.specs.Numbers.{AreNumbers, ArePairsBelow, pairs_below, total_below}
 use Rattle.xm_model.specs.Component.{Component, Fork, Function, Join, Merge, Queue, Sink, Source, Switch}
-use Rattle.xm_model.specs.Lists.{is_oracle, oracles_below}
-use Rattle.xm_order.specs.Items.{get-append_right, get-append_within, get-push_last}
+use Rattle.xm_model.specs.Views.{is_oracle, oracles_below}
+use Rattle.xm_order.specs.Lemmas.Items.{get-append_right, get-append_within, get-push_last}
 
 -- ---- one more number
 

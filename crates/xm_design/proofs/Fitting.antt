@@ -5,15 +5,16 @@ use Rattle.std.proofs.lemmas.Bool.{cases_eq}
 use Rattle.xm_model.specs.Component.{Component, Content, Fork, Function, Held, Join, Merge, Nothing, Packets, Pending, Pref, Queue, Sink, Source, Switch}
 use Rattle.xm_model.specs.Net.{FitsComponent, HasPrim, IsNet, Network}
 use Rattle.xm_model.specs.Next.{FitsContent, content_after, next_at, reset_at, reset_content}
-use Rattle.xm_model.specs.Run.{IsIn, IsRun}
+use Rattle.xm_model.specs.Membership.{IsIn}
+use Rattle.xm_model.specs.Run.{IsRun}
 use Rattle.xm_model.specs.Signals.{Signals}
-use Rattle.xm_model.specs.declared.parts.Choice.{Choice}
-use Rattle.xm_model.specs.declared.parts.Side.{Side}
+use Rattle.xm_model.specs.declared.state.Choice.{Choice}
+use Rattle.xm_model.specs.declared.primitive.Side.{Side}
 use Rattle.xm_colours.specs.Family.{AreColours, Closed, IsClosed}
 use Rattle.xm_design.specs.ColouredRuns.{FitsColours, FitsHold, FitsNext}
 use Rattle.xm_design.proofs.Coloured.{coloured, colours_hold, next_fits}
-use Rattle.xm_model.specs.Counted.{counted, driven_below, taken_below}
-use Rattle.xm_model.specs.Limits.{prim_fits}
+use Rattle.xm_model.specs.Lemmas.PortCounts.{counted, output_below, input_below}
+use Rattle.xm_model.specs.Lemmas.PrimitiveFits.{prim_fits}
 
 -- the numbers below n
 abbrev upto : ℕ → List ℕ
@@ -142,7 +143,7 @@ fits_next net signals s w φ is_net order fitting choices is_frame p m has =
     let wired = counted net is_net in
     let after = next_fits net signals colours is_net order closed m (closed p m has) (s p) (w p) φ (is_frame p m has) (known p m has)
     (λ c d named is. coloured net signals colours is_net order closed s w φ is_frame known choices c d
-    (elim named [ inl drives ↦ driven_below net wired p m c has drives | inr takes ↦ taken_below net wired p m c has takes ]) is) in
+    (elim named [ inl has_output ↦ output_below net wired p m c has has_output | inr has_input ↦ input_below net wired p m c has has_input ]) is) in
     let there : next_at (Some m) (s p) φ ≡ next_at (slice_get net.prims p) (s p) φ = ap (λ o. next_at o (s p) φ) (sym has) in
     subst (FitsContent net.colours m) there (fits net.colours m (content_after m (s p) φ) (next_form m (s p) φ) after)
 

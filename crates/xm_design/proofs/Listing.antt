@@ -3,7 +3,7 @@ use Rattle.std.proofs.Common.{◌≡◌, ℕ, zero, suc, ◌+◌, Bool, true, fa
 use Rattle.std.specs.Prelude.{filter}
 use Rattle.xm_design.specs.Oracles.{OneOracleCount}
 use Rattle.xm_model.specs.Component.{Component}
-use Rattle.xm_model.specs.Lists.{is_oracle, oracles_below}
+use Rattle.xm_model.specs.Views.{is_oracle, oracles_below}
 
 counted : (prims : List Component) → length (filter is_oracle prims) ≡ oracles_below prims (length prims)
 counted [] = refl

@@ -4,10 +4,11 @@ use Rattle.xm_colours.specs.Family.{IsClosed}
 use Rattle.xm_model.specs.Component.{Component, Content, Queue, Source}
 use Rattle.xm_model.specs.Frame.{IsFrame}
 use Rattle.xm_model.specs.Net.{HasPrim, IsNet, Network}
-use Rattle.xm_model.specs.Run.{ChoicesFit, IsIn, IsRun, TapeFits}
+use Rattle.xm_model.specs.Run.{ChoicesFit, IsRun, TapeFits}
+use Rattle.xm_model.specs.Membership.{IsIn}
 use Rattle.xm_model.specs.Next.{IsFittingState, next}
 use Rattle.xm_model.specs.Signals.{Signals, packets_in, pending_in}
-use Rattle.xm_model.specs.declared.parts.Choice.{Choice}
+use Rattle.xm_model.specs.declared.state.Choice.{Choice}
 use Rattle.xm_order.specs.Dependence.{IsOrder}
 use Rattle.xm_order.specs.declared.signal.Signal.{Signal}
 

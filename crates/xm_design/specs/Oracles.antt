@@ -1,7 +1,7 @@
 -- The sources and sinks of a net, counted as they stand below a primitive, and taken out as a list.
 use Rattle.std.specs.Prelude.{◌≡◌, ℕ, true, List, filter, length, slice_get, Some}
 use Rattle.xm_model.specs.Component.{Component}
-use Rattle.xm_model.specs.Lists.{is_oracle, oracles_below}
+use Rattle.xm_model.specs.Views.{is_oracle, oracles_below}
 
 -- both give one number; and a source or sink stands in the list at the place of its choice in a row
 pub record OraclesAgree (prims : List Component) : Type 0 where

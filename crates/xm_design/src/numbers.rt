@@ -5,7 +5,8 @@ ghost use Rattle.xm_colours.specs.Family.{colours_at};
 ghost use Rattle.xm_colours.specs.Pairs.{queue_pairs_at};
 ghost use Rattle.xm_design.specs.Numbers.{ArePairsBelow, IsOracles};
 ghost use Rattle.xm_model.specs.Component.{component_of};
-ghost use Rattle.xm_model.specs.Lists.{is_oracle, oracles_below};
+ghost use Rattle.xm_model.specs.Views.{is_oracle, oracles_below};
+ghost use Rattle.xm_model.specs.Limits.{most_colours};
 
 use std::alloc::Global;
 use xm_colours::Colours;
@@ -33,7 +34,7 @@ fn oracle_count(prim: &Prim) -> u32
 /// How many queue pairs it has.
 fn queue_pairs(prim: &Prim, colours: &Colours) -> u32
     ensures number { result ≡ length (queue_pairs_at (colours_at colours.now) 0 (component_of prim.now)) }
-    ensures few { result ≤ 64 }
+    ensures few { result ≤ most_colours }
 {
     match prim {
         Prim::Queue { out, .. } => colours.count(*out),

@@ -4,19 +4,19 @@
 mod adapters;
 mod memory_sink;
 mod memory_source;
-mod whole;
+mod transfer;
 mod words;
 
 ghost use Rattle.std.specs.Prelude.{ℕ, List, ◌<◌, length, IfOk};
 ghost use Rattle.std.specs.declared.option.Option.{Option};
 ghost use Rattle.std.specs.Io.{ReadsAtMost, WritesAtMost};
 ghost use Rattle.std.specs.Io.KnownBytes.{ReadConsumes, WriteAppends};
-ghost use Rattle.xm_io.specs.Causes.{HasCause};
+ghost use Rattle.xm_io.specs.Faults.{HasCause};
 
 pub use adapters::{StdSink, StdSource};
 pub use memory_sink::MemSink;
 pub use memory_source::{CleanSource, MemSource};
-pub use whole::{ReadFault, read_all, write_all};
+pub use transfer::{ReadFault, read_all, write_all};
 pub use words::Words;
 
 /// The fault of one call of the outside.
@@ -51,6 +51,3 @@ pub trait Sink {
         ensures bytes { WriteAppends (held self.old) (held self.new) result piece.now }
         ensures cause { HasCause (faults self.old) (faults self.new) result };
 }
-
-#[cfg(test)]
-mod tests;

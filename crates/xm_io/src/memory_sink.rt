@@ -3,7 +3,7 @@
 ghost use Rattle.std.specs.Prelude.{◌≡◌, ◌<◌, ◌≤◌, Some, [], length, take, Ok, IfOk, IsTrue, IsErr, false};
 ghost use Rattle.std.specs.Io.{WritesAtMost};
 ghost use Rattle.std.specs.Io.KnownBytes.{WriteAppends};
-ghost use Rattle.xm_io.specs.Causes.{HasCause};
+ghost use Rattle.xm_io.specs.Faults.{HasCause};
 ghost use Rattle.xm_io.specs.Memory.{Store, next_write_fails, write_failed, share, write_done};
 
 use crate::memory_source::is_among;

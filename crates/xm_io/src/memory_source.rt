@@ -3,7 +3,7 @@
 ghost use Rattle.std.specs.Prelude.{◌≡◌, ℕ, ◌^◌, ◌<◌, ◌≤◌, min, Some, List, drop, length, Ok, IsTrue, IsOk, IsErr, false};
 ghost use Rattle.std.specs.Io.{ReadsAtMost};
 ghost use Rattle.std.specs.Io.KnownBytes.{ReadConsumes};
-ghost use Rattle.xm_io.specs.Causes.{HasCause};
+ghost use Rattle.xm_io.specs.Faults.{HasCause};
 ghost use Rattle.xm_io.specs.Memory.{Supply, is_listed, next_read_fails, read_failed, gift, read_done, filled};
 
 use crate::{Failed, Source};

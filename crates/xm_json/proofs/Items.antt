@@ -8,7 +8,7 @@ use Rattle.serde_json.specs.Data.{Data}
 use Rattle.serde_json.specs.View.{items_view, members_view, view}
 use Rattle.serde_json.specs.declared.value.Value.{Value}
 use Rattle.xm_json.specs.Lent.{lent_texts}
-use Rattle.xm_json.specs.Lists.{list_any-map}
+use Rattle.xm_json.specs.Lemmas.Lists.{list_any-map}
 use Rattle.xm_json.specs.Members.{has_only}
 use Rattle.xm_json.specs.Values.{list_of}
 

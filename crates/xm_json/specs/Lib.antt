@@ -1,10 +1,8 @@
 pub mod Gives
 pub mod Holding
+pub mod Lemmas
 pub mod Lent
-pub mod Lists
 pub mod Members
 pub mod Path
-pub mod StepFacts
 pub mod Values
-pub mod Walk
 pub mod WholeNumbers

@@ -16,11 +16,11 @@ pub struct Text {
 impl Model for Text {
     ghost use Rattle.std.specs.Prelude.{ℕ};
     ghost use Rattle.std.specs.Coded.{coded_ℕ};
-    ghost use Rattle.xm_model.specs.Listing.{Listing, listing_code};
+    ghost use Rattle.xm_model.specs.ListView.{ListView, list_view_code};
 
-    ghost Value = { Listing ℕ };
+    ghost Value = { ListView ℕ };
 
-    ghost coded = { listing_code coded_ℕ };
+    ghost coded = { list_view_code coded_ℕ };
 
     ghost use Rattle.std.specs.Vec.{vec_capacity};
 

@@ -7,14 +7,14 @@ use Rattle.xm_model.specs.Component.{component_of}
 use Rattle.xm_model.specs.Naming.{allowed_of, naming_of}
 use Rattle.xm_model.specs.Net.{IsWithinLimits, Network, network_of}
 use Rattle.xm_model.specs.Steps.{◌>>=◌}
-use Rattle.xm_model.specs.declared.parts.Primitive.{Primitive}
+use Rattle.xm_model.specs.declared.primitive.Primitive.{Primitive}
 use Rattle.xm_shape.specs.NamedNet.{NamedNet, channel_names}
 use Rattle.xm_shape.specs.Fault.{Fault}
 use Rattle.xm_shape.specs.Names.{Name}
 use Rattle.xm_netlist.specs.Doc.{Doc}
-use Rattle.xm_netlist.specs.Making.{AreSound, IsMade, all_tests, last_test}
+use Rattle.xm_netlist.specs.Inner.Making.{AreSound, IsMade, all_tests, last_test}
 use Rattle.xm_netlist.specs.Numbered.{allow_of, naming_in, net_of, primitive_numbered}
-use Rattle.xm_netlist.specs.Placed.{AreFew, NumbersOf, numbered_allow, naming_from, numbered_primitive}
+use Rattle.xm_netlist.specs.Inner.Placed.{AreFew, NumbersOf, numbered_allow, naming_from, numbered_primitive}
 use Rattle.xm_netlist.specs.Reading.{doc_from, number_net}
 use Rattle.xm_netlist.specs.Checks.{check_colours, check_sizes, check_names}
 use Rattle.xm_netlist.specs.declared.numbering.Numbers.{Numbers}

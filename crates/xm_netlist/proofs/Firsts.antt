@@ -8,7 +8,7 @@ use Rattle.std.proofs.lemmas.List.{map-append}
 use Rattle.std.proofs.lemmas.List.Folds.{list_all-append, list_any-append}
 use Rattle.std.proofs.lemmas.Slice.Eq.{bytes_eq-Decides}
 use Rattle.xm_shape.specs.NamedNet.{NamedPrimitive, channels_of}
-use Rattle.xm_shape.specs.Equal.{same_bytes, same_names, swapped}
+use Rattle.xm_shape.specs.Lemmas.Equal.{same_bytes, same_names, swapped}
 use Rattle.xm_shape.specs.Names.{Name, first_uses, is_among, number_in}
 use Rattle.xm_netlist.specs.Numbered.{numbers_below, primitive_numbered}
 use Rattle.xm_netlist.specs.Valid.{are_distinct, channel_uses, differ, first_numbers}

@@ -9,18 +9,18 @@ use Rattle.std.proofs.lemmas.List.Elements.{All-append, All-cons, All-head, All-
 use Rattle.std.proofs.lemmas.List.Folds.{list_any-append}
 use Rattle.std.proofs.lemmas.List.Sums.{sum_by-cons}
 use Rattle.std.proofs.lemmas.Slice.Eq.{bytes_eq-Decides}
-use Rattle.xm_json.specs.StepFacts.{checked}
+use Rattle.xm_json.specs.Lemmas.StepFacts.{checked}
 use Rattle.xm_model.specs.Net.{FitsComponent, IsColourMap, IsWithinLimits, capacity_of, inputs, outputs}
-use Rattle.xm_model.specs.Sizes.{most_capacities, most_capacity, most_channels, most_colours, most_primitives, most_source_colours}
+use Rattle.xm_model.specs.Limits.{most_capacities, most_capacity, most_channels, most_colours, most_primitives, most_source_colours}
 use Rattle.xm_shape.specs.NamedNet.{NamedNet, NamedKind, NamedPrimitive, Table, channel_names, channels_of, fork, function, join, merge, queue, sink, source, switch}
-use Rattle.xm_shape.specs.Equal.{same_bytes}
+use Rattle.xm_shape.specs.Lemmas.Equal.{same_bytes}
 use Rattle.xm_json.specs.Path.{member_of, place_of}
 use Rattle.xm_json.specs.Holding.{each_holds}
 use Rattle.xm_shape.specs.Names.{Name, first_uses, is_among, number_in}
 use Rattle.xm_shape.specs.Shape.{net}
 use Rattle.xm_shape.specs.declared.fault.Which.{Which}
 use Rattle.xm_shape.specs.declared.fault.Which.TheVariants as which
-use Rattle.xm_netlist.specs.Lengths.{length-marks_of, length-numbers_below, length-set_each}
+use Rattle.xm_netlist.specs.Lemmas.Lengths.{length-marks_of, length-numbers_below, length-set_each}
 use Rattle.xm_netlist.specs.Numbered.{component_in, images_of, net_of, numbers_below, primitive_numbered, set_each}
 use Rattle.xm_netlist.specs.Checks.{check_all_known, capacity_in, check_queue_size, check_colours, check_entry_colours, form_capacity, check_form_colours, check_queue_packets, check_known, check_sizes, check_offered, check_offers, check_packets, check_primitive_colours, check_room, check_size, check_source_size, check_table}
 use Rattle.xm_netlist.specs.Valid.{channel_uses}

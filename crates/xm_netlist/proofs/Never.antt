@@ -5,9 +5,9 @@ use Rattle.serde_json.specs.Data.{Data}
 use Rattle.serde_json.specs.Find.{get}
 use Rattle.xm_model.specs.Naming.{Naming}
 use Rattle.xm_model.specs.Net.{Network}
-use Rattle.xm_model.specs.Sizes.{most_capacities, most_capacity, most_channels, most_colours, most_primitives, most_source_colours}
+use Rattle.xm_model.specs.Limits.{most_capacities, most_capacity, most_channels, most_colours, most_primitives, most_source_colours}
 use Rattle.xm_model.specs.Steps.{◌>>=◌, check, demand, each, each_from}
-use Rattle.xm_model.specs.declared.parts.WiringFault.{WiringFault}
+use Rattle.xm_model.specs.declared.fault.WiringFault.{WiringFault}
 use Rattle.xm_shape.specs.NamedNet.{NamedNet, NamedKind, Port, Table, channel_names, fork, function, join, merge, ports_of, queue, sink, source, switch}
 use Rattle.xm_shape.specs.Fault.{Fault, bad_name, limit, not_json, same_name, shape, unknown_colour, unknown_kind}
 use Rattle.xm_json.specs.Path.{Path, member_of, place_of}

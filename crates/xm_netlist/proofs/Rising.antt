@@ -7,7 +7,7 @@ use Rattle.std.proofs.lemmas.List.Elements.{All-cons, All-head, All-nil, All-rep
 use Rattle.xm_model.specs.Net.{Network}
 use Rattle.xm_shape.specs.NamedNet.{AllowEntry, NamedNet, channel_names}
 use Rattle.xm_shape.specs.Names.{Name, number_in}
-use Rattle.xm_netlist.specs.Lengths.{length-marks_of, length-set_each}
+use Rattle.xm_netlist.specs.Lemmas.Lengths.{length-marks_of, length-set_each}
 use Rattle.xm_netlist.specs.Numbered.{allow_of, entries_from, listed_in, marked_from, marks_of, net_of, slots_of}
 use Rattle.xm_netlist.specs.Valid.{AllowsWithin, RisesWithin}
 use Rattle.xm_netlist.proofs.Limited.{All-set_each}

@@ -7,10 +7,10 @@ use Rattle.xm_model.specs.Lending.{refill-full}
 use Rattle.xm_shape.specs.NamedNet as plain
 use Rattle.xm_shape.specs.Views.{allow_entry_of, names_of}
 use Rattle.xm_shape.specs.Names.{number_in}
-use Rattle.xm_json.specs.Lists.{cut_at}
+use Rattle.xm_json.specs.Lemmas.Lists.{cut_at}
 use Rattle.xm_shape.specs.declared.named_net.AllowEntry.{AllowEntry}
 use Rattle.xm_netlist.specs.Numbered.{slots_of}
-use Rattle.xm_netlist.specs.Placed.{slot_of, plain_slots_of, slots_with}
+use Rattle.xm_netlist.specs.Inner.Placed.{slot_of, plain_slots_of, slots_with}
 use Rattle.xm_netlist.specs.declared.numbering.Numbers.{Numbers}
 
 -- the entry at i took its slot

@@ -2,11 +2,11 @@
 use Rattle.std.proofs.Common.{◌≡◌, ℕ, ◌+◌, ◌<◌, List, [], ◌∷◌, ◌++◌, length, get_or, drop, map, take, Result, Ok, refl, sym, ap, ◌∙◌, add-one}
 use Rattle.std.specs.Prelude.{⊤}
 use Rattle.std.proofs.lemmas.List.{get_or-map, length-map, map_push, take_more}
-use Rattle.xm_json.specs.StepFacts.{Fails-bind}
+use Rattle.xm_json.specs.Lemmas.StepFacts.{Fails-bind}
 use Rattle.xm_shape.specs.Fault.{Fault}
 use Rattle.xm_shape.specs.Gives.{Fails, fault_of}
 use Rattle.xm_json.specs.Holding.{each_holds_from}
-use Rattle.xm_json.specs.Lists.{cut_at}
+use Rattle.xm_json.specs.Lemmas.Lists.{cut_at}
 use Rattle.xm_shape.specs.declared.fault.DocFault.{DocFault}
 
 module _ {X A : Type 0} (view : X → A) (xs : List X) (i : ℕ) (x : X) (lt : i < length xs) (is : x ≡ get_or xs i x) where

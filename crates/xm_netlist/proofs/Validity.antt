@@ -15,7 +15,7 @@ use Rattle.xm_shape.specs.NamedNet.{NamedNet, NamedKind, NamedPrimitive, Port, c
 use Rattle.xm_shape.specs.Fault.{Fault, bad_name, same_name, shape, unknown_colour}
 use Rattle.xm_json.specs.Path.{member_of, place_of}
 use Rattle.xm_shape.specs.Gives.{Gives}
-use Rattle.xm_json.specs.StepFacts.{bound, checked, passed, told_ok}
+use Rattle.xm_json.specs.Lemmas.StepFacts.{bound, checked, passed, told_ok}
 use Rattle.xm_json.specs.Holding.{each_holds, each_holds_from}
 use Rattle.xm_shape.specs.Names.{Name, is_among, is_colour_name, is_name}
 use Rattle.xm_shape.specs.Shape.{are_channels, named_net_in, net, primitive_at, rest_in, root_in, shaped, whole_member, whole_or_missing}

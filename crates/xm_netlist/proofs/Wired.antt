@@ -4,7 +4,7 @@ use Rattle.std.proofs.lemmas.Bool.{cases_eq}
 use Rattle.xm_model.specs.Component.{Component}
 use Rattle.xm_model.specs.Naming.{Naming}
 use Rattle.xm_model.specs.Net.{IsWellWired, IsWiredAt, Network, fault_at, initiators, targets, wiring_fault}
-use Rattle.xm_model.specs.declared.parts.WiringFault.{WiringFault}
+use Rattle.xm_model.specs.declared.fault.WiringFault.{WiringFault}
 use Rattle.xm_json.specs.Holding.{refuse}
 use Rattle.xm_netlist.specs.Numbered.{first_of, check_wiring, wiring_fault_of, wiring_from}
 

@@ -1,6 +1,6 @@
 -- What is tested of a draft, test by test: names, then colours, then sizes.
 use Rattle.std.specs.Prelude.{ℕ, List, [], ◌∷◌, ◌&&◌, not, nat_le, length, map, sum_by, take, ⊤, Result, Ok, codes}
-use Rattle.xm_model.specs.Sizes.{most_capacities, most_capacity, most_channels, most_colours, most_primitives, most_source_colours}
+use Rattle.xm_model.specs.Limits.{most_capacities, most_capacity, most_channels, most_colours, most_primitives, most_source_colours}
 use Rattle.xm_model.specs.Steps.{◌>>=◌, check}
 use Rattle.xm_shape.specs.NamedNet.{AllowEntry, NamedNet, NamedKind, NamedPrimitive, Port, Table, channel_names, fork, function, join, merge, ports_of, queue, sink, source, switch}
 use Rattle.xm_shape.specs.Fault.{Fault, bad_name, limit, same_name, unknown_colour}

@@ -3,7 +3,7 @@ use Rattle.std.specs.Prelude.{ℕ, zero, suc, List, [], ◌∷◌, ◌++◌, Boo
 use Rattle.xm_model.specs.Component.{Component, Fork, Function, Join, Merge, Queue, Sink, Source, Switch}
 use Rattle.xm_model.specs.Naming.{Allowed, Naming}
 use Rattle.xm_model.specs.Net.{Network, fault_at}
-use Rattle.xm_model.specs.declared.parts.WiringFault.{WiringFault}
+use Rattle.xm_model.specs.declared.fault.WiringFault.{WiringFault}
 use Rattle.xm_shape.specs.NamedNet.{AllowEntry, NamedNet, NamedKind, NamedPrimitive, Table, channel_names, fork, function, join, merge, queue, sink, source, switch}
 use Rattle.xm_shape.specs.Fault.{Fault, wiring}
 use Rattle.xm_json.specs.Holding.{refuse}

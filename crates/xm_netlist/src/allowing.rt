@@ -2,10 +2,10 @@
 
 ghost use Rattle.std.specs.Prelude.{◌≡◌, ◌≤◌, ◌∷◌, ◌++◌, [], IfOk, OnOk, None, length, map};
 ghost use Rattle.xm_model.specs.Naming.{allowed_of};
-ghost use Rattle.xm_model.specs.Sizes.{most_channels, most_colours};
+ghost use Rattle.xm_model.specs.Limits.{most_channels, most_colours};
 ghost use Rattle.xm_shape.specs.Views.{allow_entry_of, names_of};
 ghost use Rattle.xm_netlist.specs.Numbered as spec;
-ghost use Rattle.xm_netlist.specs.Placed.{AreFew, numbered_allow, slot_of, plain_slots_of, slots_with};
+ghost use Rattle.xm_netlist.specs.Inner.Placed.{AreFew, numbered_allow, slot_of, plain_slots_of, slots_with};
 
 use crate::numbering::{Numbers, marks_of, number, set_at};
 use indexmap::IndexSet;

@@ -6,7 +6,7 @@ ghost use Rattle.xm_json.specs.Path.{member_of, place_of};
 ghost use Rattle.xm_shape.specs.Gives.{Gives};
 ghost use Rattle.xm_json.specs.Holding.{each_holds};
 ghost use Rattle.xm_shape.specs.Names.{is_among};
-ghost use Rattle.xm_netlist.specs.CheckSteps as steps;
+ghost use Rattle.xm_netlist.specs.Inner.CheckSteps as steps;
 ghost use Rattle.xm_netlist.specs.Checks as spec;
 
 use crate::naming::is_new;

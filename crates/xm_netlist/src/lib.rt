@@ -13,6 +13,3 @@ mod sizes;
 pub use document::Document;
 pub use reading::{read_document, read_value};
 pub use xm_shape::{DocFault, Which};
-
-#[cfg(test)]
-mod tests_reading;

@@ -10,8 +10,8 @@ ghost use Rattle.xm_json.specs.Holding.{each_holds};
 ghost use Rattle.xm_shape.specs.Names as names;
 ghost use Rattle.xm_shape.specs.Names.{is_among};
 ghost use Rattle.xm_shape.specs.PortViews.{port_of};
-ghost use Rattle.xm_netlist.specs.Placed.{NumbersOf};
-ghost use Rattle.xm_netlist.specs.CheckSteps.{check_colour_after, check_primitive_after};
+ghost use Rattle.xm_netlist.specs.Inner.Placed.{NumbersOf};
+ghost use Rattle.xm_netlist.specs.Inner.CheckSteps.{check_colour_after, check_primitive_after};
 ghost use Rattle.xm_netlist.specs.Checks as spec;
 
 use crate::numbering::Numbers;

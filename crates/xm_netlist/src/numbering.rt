@@ -3,12 +3,12 @@
 ghost use Rattle.std.specs.Prelude.{◌≡◌, ◌≤◌, ◌∷◌, [], All, IfOk, length, map, slice_set};
 ghost use Rattle.xm_model.specs.Component.{component_of};
 ghost use Rattle.xm_model.specs.Naming.{naming_of, texts_of};
-ghost use Rattle.xm_model.specs.Sizes.{most_capacity, most_colours};
+ghost use Rattle.xm_model.specs.Limits.{most_capacity, most_colours};
 ghost use Rattle.xm_shape.specs.NamedNet as plain;
 ghost use Rattle.xm_shape.specs.Views.{named_kind_of, names_of, named_primitive_of, table_of};
 ghost use Rattle.xm_shape.specs.Names.{number_in};
 ghost use Rattle.xm_netlist.specs.Numbered as spec;
-ghost use Rattle.xm_netlist.specs.Placed.{AreFew, numbered_component, naming_from, numbered_primitive, with_images, with_marks};
+ghost use Rattle.xm_netlist.specs.Inner.Placed.{AreFew, numbered_component, naming_from, numbered_primitive, with_images, with_marks};
 ghost use Rattle.xm_netlist.specs.Checks.{capacity_in, form_capacity};
 
 use indexmap::IndexSet;
@@ -28,7 +28,7 @@ impl Numbers {
     ghost use Rattle.std.specs.Prelude.{◌≡◌};
     ghost use Rattle.xm_shape.specs.Views.{names_of};
     ghost use Rattle.xm_shape.specs.Names.{number_in};
-    ghost use Rattle.xm_netlist.specs.Placed.{AreFew};
+    ghost use Rattle.xm_netlist.specs.Inner.Placed.{AreFew};
 
     fn channel(&self, name: &str) -> u32
         requires { AreFew self.now }

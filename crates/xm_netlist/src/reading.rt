@@ -12,8 +12,8 @@ ghost use Rattle.xm_shape.specs.Fault.{not_json};
 ghost use Rattle.xm_shape.specs.Gives.{Gives};
 ghost use Rattle.xm_netlist.specs.Documented.{doc_of};
 ghost use Rattle.xm_netlist.specs.Numbered as numbers_spec;
-ghost use Rattle.xm_netlist.specs.Making.{AreSound, IsMade, all_tests, first_tests, last_test, later_tests};
-ghost use Rattle.xm_netlist.specs.Placed.{NumbersOf};
+ghost use Rattle.xm_netlist.specs.Inner.Making.{AreSound, IsMade, all_tests, first_tests, last_test, later_tests};
+ghost use Rattle.xm_netlist.specs.Inner.Placed.{NumbersOf};
 ghost use Rattle.xm_netlist.specs.Reading as spec;
 ghost use Rattle.xm_netlist.specs.Valid.{IsValid};
 

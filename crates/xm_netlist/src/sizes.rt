@@ -1,12 +1,12 @@
 //! The limits on sizes.
 
 ghost use Rattle.std.specs.Prelude.{◌≡◌, ◌≤◌, All, length, map, sum_by};
-ghost use Rattle.xm_model.specs.Sizes.{most_capacity, most_primitives};
+ghost use Rattle.xm_model.specs.Limits.{most_capacity, most_primitives};
 ghost use Rattle.xm_shape.specs.NamedNet as plain;
 ghost use Rattle.xm_shape.specs.Views.{plain_net_of, named_kind_of, named_primitive_of};
 ghost use Rattle.xm_shape.specs.Gives.{Gives};
 ghost use Rattle.xm_json.specs.Holding.{each_holds};
-ghost use Rattle.xm_netlist.specs.CheckSteps.{check_rooms};
+ghost use Rattle.xm_netlist.specs.Inner.CheckSteps.{check_rooms};
 ghost use Rattle.xm_netlist.specs.Checks as spec;
 
 use xm_model::{

@@ -1,5 +1,4 @@
 pub mod Exists
-pub mod LongRow
 pub mod Progressing
 pub mod Needing
 pub mod NoLoop

@@ -4,9 +4,9 @@ use Rattle.std.proofs.lemmas.Bool.{cases_eq}
 use Rattle.std.proofs.lemmas.List.{get_or-set_other}
 use Rattle.std.proofs.lemmas.List.Sums.{sum_by-set}
 use Rattle.std.proofs.lemmas.Option.{get_or_from_slice_get, slice_get_within}
-use Rattle.xm_order.specs.Items.{get-append_left, get-push_last, get-set_other, get-set_same, push_cases}
+use Rattle.xm_order.specs.Lemmas.Items.{get-append_left, get-push_last, get-set_other, get-set_same, push_cases}
 use Rattle.xm_order.specs.Loop.{rank}
-use Rattle.xm_order.specs.Walk.{Advances, HoldsAt, HasProgress, all_left, steps_left}
+use Rattle.xm_order.specs.Inner.Walk.{Advances, HoldsAt, HasProgress, all_left, steps_left}
 use Rattle.xm_order.specs.declared.signal.Signal.{Signal}
 use Rattle.xm_order.specs.declared.signal.Signal.TheVariants as signal
 use Rattle.xm_order.specs.declared.walk.Progress.{Progress}

@@ -4,16 +4,16 @@ use Rattle.std.proofs.lemmas.Bool.{cases_lt}
 use Rattle.std.proofs.lemmas.List.{length-replicate, length-set, take_all, take_more}
 use Rattle.std.proofs.lemmas.List.Folds.{sum_by-replicate}
 use Rattle.std.proofs.lemmas.Option.{get_or_from_slice_get, slice_get-get_or, slice_get_within}
-use Rattle.xm_model.specs.Counted.{counted}
+use Rattle.xm_model.specs.Lemmas.PortCounts.{counted}
 use Rattle.xm_model.specs.Net.{IsNet, Network}
 use Rattle.xm_order.proofs.Progressing.{advanced, holds_less, holds_more, holds_still, left_written, progress_new}
-use Rattle.xm_order.specs.Items.{get-append_left, get-push_last, get-replicate, push_cases}
+use Rattle.xm_order.specs.Lemmas.Items.{get-append_left, get-push_last, get-replicate, push_cases}
 use Rattle.xm_order.proofs.Within.{listed_below}
 use Rattle.xm_order.specs.Dependence.{Depends, IsOrder, channel_of}
-use Rattle.xm_order.specs.Listed.{ListsAll}
+use Rattle.xm_order.specs.Inner.Listed.{ListsAll}
 use Rattle.xm_order.specs.Loop.{rank}
-use Rattle.xm_order.specs.Path.{IsPath, LastNeeds}
-use Rattle.xm_order.specs.Walk.{Advances, HoldsAt, HasProgress, IsWalkOver, all_left, steps_left}
+use Rattle.xm_order.specs.Inner.Path.{IsPath, LastNeeds}
+use Rattle.xm_order.specs.Inner.Walk.{Advances, HoldsAt, HasProgress, IsWalkOver, all_left, steps_left}
 use Rattle.xm_order.specs.declared.signal.Signal.{Signal}
 use Rattle.xm_order.specs.declared.signal.Signal.TheVariants as signal
 use Rattle.xm_order.specs.declared.walk.Progress.{Progress}

@@ -14,6 +14,3 @@ pub use laws::{no_loop, one_frame, one_run, settles_all};
 pub use signal::Signal;
 pub use signal_order::Order;
 pub use walk::order;
-
-#[cfg(test)]
-mod tests;

@@ -3,7 +3,7 @@
 ghost use Rattle.std.specs.Prelude.{◌≡◌, ℕ, ◌<◌, ◌≤◌, ◌++◌, length, slice_get, IfOk, OnOk, Some};
 ghost use Rattle.xm_model.specs.Net.{Network};
 ghost use Rattle.xm_order.specs.Loop.{IsLoop, rank};
-ghost use Rattle.xm_order.specs.Path.{IsPath, IsRing, LastNeeds};
+ghost use Rattle.xm_order.specs.Inner.Path.{IsPath, IsRing, LastNeeds};
 
 use crate::signal::{Signal, rank};
 use std::alloc::Global;

@@ -3,7 +3,7 @@
 ghost use Rattle.std.specs.Prelude.{◌≡◌, ◌≢◌, ℕ, ◌-◌, ◌*◌, ◌^◌, ◌<◌, [], ◌∷◌, ◌++◌, length, take, slice_get, slice_set, IfNone, IfOk, IfSome, OnOk, Some};
 ghost use Rattle.xm_order.specs.Dependence.{IsOrder, channel_of};
 ghost use Rattle.xm_order.specs.Loop.{IsLoop, rank};
-ghost use Rattle.xm_order.specs.Walk.{Advances, HasProgress, IsWalk, all_left};
+ghost use Rattle.xm_order.specs.Inner.Walk.{Advances, HasProgress, IsWalk, all_left};
 ghost use Rattle.xm_order.specs.declared.walk.Progress.TheVariants as reached;
 
 use crate::fault::OrderFault;

@@ -1,14 +1,14 @@
 -- A granted right holds over any two consecutive cycles.
 use Rattle.std.proofs.Common.{◌≡◌, arith, ℕ, suc, Option, None, ◌∙◌, subst}
 use Rattle.xm_persist.proofs.TwoCycles.{fork_a_stays, fork_b_stays, fork_in_stays, function_in_stays, function_out_stays, join_a_stays, join_b_stays, join_out_stays, merge_a_stays, merge_b_stays, merge_out_stays, queue_in_stays, queue_out_stays, switch_a_stays, switch_b_stays, switch_in_stays}
-use Rattle.xm_design.specs.Offers.{sink_again, source_again}
+use Rattle.xm_design.specs.Lemmas.Offers.{sink_again, source_again}
 use Rattle.xm_persist.specs.Rights.{Granted, GrantsHold, GrantsHoldOfRuns, Initiator, HoldsOver, Right, Target, fork_a, fork_b, fork_in, function_in, function_out, join_a, join_b, join_out, merge_a, merge_b, merge_out, queue_in, queue_out, sink_in, source_out, switch_a, switch_b, switch_in}
 use Rattle.xm_model.specs.Component.{Component, Content}
 use Rattle.xm_model.specs.Frame.{Equation, IsFrame}
 use Rattle.xm_model.specs.Net.{HasPrim, Network}
 use Rattle.xm_model.specs.Next.{content_after, next, next_at}
 use Rattle.xm_model.specs.Signals.{Signals, offer_chosen, packets_in, pref_in, ready_chosen}
-use Rattle.xm_model.specs.declared.parts.Choice.{Choice}
+use Rattle.xm_model.specs.declared.state.Choice.{Choice}
 
 module _ (net : Network) (s : ℕ → Content) (w v : ℕ → Choice) (φ ψ : Signals) (now : IsFrame net s w φ) (then : IsFrame net (next net s φ) v ψ) where
   -- the equation of the second cycle, at the primitive's next cell

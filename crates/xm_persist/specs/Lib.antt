@@ -1,2 +1,2 @@
-pub mod Persistencies
+pub mod Inner
 pub mod Rights

@@ -7,12 +7,12 @@ use Rattle.xm_model.specs.Net.{HasPrim, IsNet, Network}
 use Rattle.xm_model.specs.Next.{next}
 use Rattle.xm_model.specs.Run.{IsRun}
 use Rattle.xm_model.specs.Signals.{Signals}
-use Rattle.xm_model.specs.declared.parts.Choice.{Choice}
-use Rattle.xm_model.specs.declared.parts.Side.{Side}
-use Rattle.xm_model.specs.declared.parts.SinkMode.{SinkMode}
-use Rattle.xm_model.specs.declared.parts.SourceMode.{SourceMode}
-use Rattle.xm_model.specs.declared.parts.SinkMode.TheVariants as sink_mode
-use Rattle.xm_model.specs.declared.parts.SourceMode.TheVariants as source_mode
+use Rattle.xm_model.specs.declared.state.Choice.{Choice}
+use Rattle.xm_model.specs.declared.primitive.Side.{Side}
+use Rattle.xm_model.specs.declared.primitive.SinkMode.{SinkMode}
+use Rattle.xm_model.specs.declared.primitive.SourceMode.{SourceMode}
+use Rattle.xm_model.specs.declared.primitive.SinkMode.TheVariants as sink_mode
+use Rattle.xm_model.specs.declared.primitive.SourceMode.TheVariants as source_mode
 
 -- an initiator is persistent: what it offers and is not taken it offers again
 abbrev pub OfferStays : ℕ → Signals → Signals → Type 0

@@ -9,6 +9,3 @@ mod persistent;
 pub use fault::PersistFault;
 pub use laws::{forks_target, grants_hold, grants_hold_of_runs};
 pub use persistent::{Persistent, persist};
-
-#[cfg(test)]
-mod tests;

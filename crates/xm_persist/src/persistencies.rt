@@ -4,8 +4,8 @@ ghost use Rattle.std.specs.Prelude.{◌≡◌, ◌<◌, ◌&&◌, length, IfOk};
 ghost use Rattle.xm_model.specs.Component.{component_of};
 ghost use Rattle.xm_order.specs.Dependence.{IsOrder, channel_of};
 ghost use Rattle.xm_order.specs.declared.signal.Signal.TheVariants as signal;
-ghost use Rattle.xm_persist.specs.Persistencies as spec;
-ghost use Rattle.xm_persist.specs.Persistencies.{AreExact, GrantedBy, OthersStay, granted_in};
+ghost use Rattle.xm_persist.specs.Inner.Persistencies as spec;
+ghost use Rattle.xm_persist.specs.Inner.Persistencies.{AreExact, GrantedBy, OthersStay, granted_in};
 
 use std::alloc::Global;
 use xm_model::{List, Net, OutOfMemory, Prim, SinkMode, SourceMode};

@@ -1,7 +1,8 @@
 //! Designs of which every channel is persistent.
 
-ghost use Rattle.std.specs.Prelude.{◌≡◌, ◌<◌, ℕ, false, true, length, slice_get, IfNone, IfOk, IfSome, Some};
-ghost use Rattle.xm_persist.specs.Persistencies.{granted_in};
+ghost use Rattle.std.specs.Prelude.{◌≡◌, ◌<◌, ◌≤◌, ℕ, false, true, length, slice_get, IfNone, IfOk, IfSome, Some};
+ghost use Rattle.xm_model.specs.Limits.{most_channels};
+ghost use Rattle.xm_persist.specs.Inner.Persistencies.{granted_in};
 ghost use Rattle.xm_order.specs.declared.signal.Signal.TheVariants as signal;
 ghost use Rattle.xm_persist.specs.Rights.{AllGranted, IsFirstUngranted};
 
@@ -48,7 +49,7 @@ impl<'a> Persistent<'a> {
 
 /// The first channel whose initiator was not found to be granted.
 fn first_not_granted(found: &[Persistency]) -> Option<u32>
-    requires { length found.now < 4294967296 }
+    requires { length found.now ≤ most_channels }
     ensures none { IfNone result ((c : ℕ) → c < length found.now → granted_in found.now (signal.Offer c) ≡ true) }
     ensures within { IfSome result (λ c. c < length found.now) }
     ensures ungranted { IfSome result (λ c. granted_in found.now (signal.Offer c) ≡ false) }

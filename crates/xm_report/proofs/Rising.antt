@@ -1,14 +1,15 @@
 -- The numbers of a list that rises, up to a number.
-use Rattle.std.proofs.Common.{◌≡◌, ℕ, ◌+◌, ◌<◌, ◌≤◌, Bool, true, false, cond, nat_lt, List, [], ◌∷◌, ◌++◌, refl, sym, ap, ◌∙◌, inl, inr, arith, append_assoc}
+use Rattle.std.proofs.Common.{◌≡◌, ℕ, ◌+◌, ◌<◌, ◌≤◌, Bool, true, false, cond, nat_lt, List, [], ◌∷◌, ◌++◌, codes, Result, Ok, Err, refl, sym, ap, ◌∙◌, inl, inr, arith, append_assoc}
 use Rattle.std.proofs.lemmas.Bool.{cases_lt, cond-false, cond-true, lt-ltb, le-ltb}
 use Rattle.std.proofs.lemmas.Grind.{flat_map-append}
 use Rattle.std.proofs.lemmas.List.{append-nil}
 use Rattle.std.proofs.lemmas.List.Concat.{flat_map-cons}
 use Rattle.xm_colours.specs.Family.{Rises}
 use Rattle.std.specs.List.{flat_map}
-use Rattle.std.specs.Prelude.{IsTrue, ◌↔◌}
+use Rattle.std.specs.Prelude.{IsTrue, OnOk, ◌↔◌}
+use Rattle.xm_model.specs.TextLines.{line}
 use Rattle.xm_model.specs.Naming.{Naming}
-use Rattle.xm_model.specs.Run.{IsIn}
+use Rattle.xm_model.specs.Membership.{IsIn}
 use Rattle.xm_report.specs.Check.{colour_if, colour_text}
 
 -- those below d
@@ -75,3 +76,11 @@ text_goes_on names false d xs old text more rise tells so_far last =
     let out : IsIn xs d → ⊥ = λ inside. (let h = tells.1 inside in cc) in
     let next = up_to-out d xs out in
     last ∙ append-nil text ∙ so_far ∙ ap (λ (l : List ℕ). old ++ flat_map (colour_text names) l) (sym next)
+
+-- a name, the texts of all, and the end of the line
+pub line_joined : {T E : Type 0} (names : Naming) (old name xs named text : List ℕ) (ys : List ℕ) (r : Result T E) (more : List ℕ) → named ≡ old ++ name → text ≡ named ++ flat_map (colour_text names) ys → ys ≡ xs
+    → OnOk r (more ≡ text ++ codes "\n") → OnOk r (more ≡ old ++ line (name ++ flat_map (colour_text names) xs))
+line_joined names old name xs named text ys (Err e) more begun texts all last = tt
+line_joined names old name xs named text ys (Ok x) more begun texts all last =
+    let f : List ℕ → List ℕ = flat_map (colour_text names) in
+    last ∙ ap (λ (l : List ℕ). l ++ codes "\n") (texts ∙ ap (λ (l : List ℕ). named ++ f l) all ∙ ap (λ (l : List ℕ). l ++ f xs) begun ∙ append_assoc old name (f xs)) ∙ append_assoc old (name ++ f xs) (codes "\n")

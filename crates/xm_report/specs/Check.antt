@@ -4,8 +4,8 @@ use Rattle.std.specs.List.{flat_map}
 use Rattle.xm_colours.specs.Family.{colours_at}
 use Rattle.xm_colours.specs.Pairs.{pairs}
 use Rattle.xm_design.specs.Designed.{Designed}
-use Rattle.xm_model.specs.Lines.{line, name_at}
-use Rattle.xm_model.specs.Lists.{oracles_below}
+use Rattle.xm_model.specs.TextLines.{line, name_at}
+use Rattle.xm_model.specs.Views.{oracles_below}
 use Rattle.xm_model.specs.Naming.{Naming}
 
 -- a word and a number
@@ -35,5 +35,7 @@ oracles_in it = oracles_below it.net.prims (length it.net.prims)
 
 abbrev pub check_text : Naming → Designed → List ℕ
 check_text names it =
-    count_line (codes "primitives") (length it.net.prims) ++ count_line (codes "channels") it.net.channels ++ count_line (codes "oracles") (oracles_in it)
-    ++ count_line (codes "pairs") (length (pairs (colours_at it.colours) it.net.channels)) ++ channel_lines names (colours_at it.colours) it.net.channels ++ line (codes "end")
+    count_line (codes "primitives") (length it.net.prims) ++ count_line (codes "channels") it.net.channels
+    ++ count_line (codes "oracles") (oracles_in it)
+    ++ count_line (codes "pairs") (length (pairs (colours_at it.colours) it.net.channels))
+    ++ channel_lines names (colours_at it.colours) it.net.channels ++ line (codes "end")

@@ -1,9 +1,9 @@
 -- The lines of error, one for each cause of refusal.
 use Rattle.std.specs.Prelude.{ℕ, List, [], ◌∷◌, ◌++◌, codes, decimal}
-use Rattle.xm_model.specs.Lines.{line, name_at}
+use Rattle.xm_model.specs.TextLines.{line, name_at}
 use Rattle.xm_model.specs.Naming.{Naming}
-use Rattle.xm_model.specs.declared.parts.WiringFault.{WiringFault}
-use Rattle.xm_model.specs.declared.parts.WiringFault.TheVariants.{NoInitiator, TwoInitiators, NoTarget, TwoTargets}
+use Rattle.xm_model.specs.declared.fault.WiringFault.{WiringFault}
+use Rattle.xm_model.specs.declared.fault.WiringFault.TheVariants.{NoInitiator, TwoInitiators, NoTarget, TwoTargets}
 use Rattle.xm_shape.specs.Fault as document
 use Rattle.xm_shape.specs.declared.fault.Which.{Which}
 use Rattle.xm_shape.specs.declared.fault.Which.TheVariants as which
@@ -17,7 +17,8 @@ abbrev pub channel_fault : Naming → List ℕ → ℕ → List ℕ
 channel_fault names word c = line (codes "net: " ++ word ++ codes " " ++ name_at names.channels c)
 
 abbrev pub pair_fault : Naming → List ℕ → ℕ → ℕ → ℕ → List ℕ
-pair_fault names word c p q = line (codes "net: " ++ word ++ codes " " ++ name_at names.channels c ++ codes " " ++ name_at names.prims p ++ codes " " ++ name_at names.prims q)
+pair_fault names word c p q = line (codes "net: " ++ word ++ codes " " ++ name_at names.channels c
+    ++ codes " " ++ name_at names.prims p ++ codes " " ++ name_at names.prims q)
 
 abbrev pub wiring_line : Naming → WiringFault → List ℕ
 wiring_line names (NoInitiator c) = channel_fault names (codes "no initiator") c

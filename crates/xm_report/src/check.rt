@@ -1,12 +1,11 @@
 //! The text of a check.
 
 ghost use Rattle.std.specs.Prelude.{◌≡◌, ◌<◌, ℕ, ◌≤◌, ◌++◌, codes, length, IfOk, OnOk};
-ghost use Rattle.std.specs.List.{flat_map};
 ghost use Rattle.xm_colours.specs.Family.{Rises, colours_at};
 ghost use Rattle.xm_model.specs.Naming.{naming_of};
-ghost use Rattle.xm_model.specs.Run.{IsIn};
+ghost use Rattle.xm_model.specs.Membership.{IsIn};
 ghost use Rattle.xm_report.specs.Check as spec;
-ghost use Rattle.xm_report.specs.Check.{channel_line, channel_lines, colour_if, colour_text, count_line};
+ghost use Rattle.xm_report.specs.Check.{channel_line, channel_lines, colour_if, count_line};
 
 use crate::pieces::{push_count, push_name};
 use std::alloc::Global;
@@ -35,24 +34,6 @@ fn push_colour_if(text: &mut Text, names: &Names, test: bool, d: u8) -> Result<(
     push_name(text, names.colours.as_slice(), usize::from(d))
 }
 
-/// Appends the names of the channel's colours.
-fn push_colours(
-    text: &mut Text,
-    names: &Names,
-    colours: &Colours,
-    c: u32,
-    count: u8,
-) -> Result<(), OutOfMemory>
-    requires rise { Rises (colours_at colours.now c) }
-    requires below { (d : ℕ) → IsIn (colours_at colours.now c) d → d < count }
-    ensures { OnOk result (text.new.items ≡ text.old.items ++ flat_map (colour_text (naming_of names.now)) (colours_at colours.now c)) }
-{
-    for d in 0..count {
-        push_colour_if(text, names, colours.has(c, d), d)?;
-    }
-    Ok(())
-}
-
 /// The sizes of the design, and each channel with its colours. The names name each channel and colour.
 pub fn check_text(alloc: Global, names: &Names, design: &Design) -> Result<Text, OutOfMemory>
     ensures { IfOk result (λ text. text.items ≡ spec.check_text (naming_of names.now) design.now) }
@@ -70,7 +51,8 @@ pub fn check_text(alloc: Global, names: &Names, design: &Design) -> Result<Text,
 
 /// Appends a line for each channel.
 fn push_channels(text: &mut Text, names: &Names, design: &Design) -> Result<(), OutOfMemory>
-    ensures { OnOk result (text.new.items ≡ text.old.items ++ channel_lines (naming_of names.now) (colours_at design.now.colours) design.now.net.channels) }
+    ensures { OnOk result (text.new.items ≡ text.old.items
+        ++ channel_lines (naming_of names.now) (colours_at design.now.colours) design.now.net.channels) }
 {
     let net = design.net();
     let colours = design.colours();
@@ -80,7 +62,7 @@ fn push_channels(text: &mut Text, names: &Names, design: &Design) -> Result<(), 
     Ok(())
 }
 
-/// Appends the line of a channel.
+/// Appends the line of a channel: its name and those of its colours.
 fn push_channel(
     text: &mut Text,
     names: &Names,
@@ -90,9 +72,12 @@ fn push_channel(
 ) -> Result<(), OutOfMemory>
     requires rise { Rises (colours_at colours.now c) }
     requires below { (d : ℕ) → IsIn (colours_at colours.now c) d → d < count }
-    ensures { OnOk result (text.new.items ≡ text.old.items ++ channel_line (naming_of names.now) (colours_at colours.now) c) }
+    ensures { OnOk result (text.new.items ≡ text.old.items
+        ++ channel_line (naming_of names.now) (colours_at colours.now) c) }
 {
     push_name(text, names.channels.as_slice(), c as usize)?;
-    push_colours(text, names, colours, c, count)?;
+    for d in 0..count {
+        push_colour_if(text, names, colours.has(c, d), d)?;
+    }
     text.push_bytes(b"\n")
 }

@@ -1,11 +1,12 @@
 //! The lines of error, one for each cause of refusal.
 
 ghost use Rattle.std.specs.Prelude.{◌≡◌, ◌++◌, ◌==◌, [], if◌then◌else◌, codes, IfOk, OnOk, Some};
-ghost use Rattle.xm_model.specs.Lines.{line};
+ghost use Rattle.xm_model.specs.TextLines.{line};
 ghost use Rattle.xm_model.specs.Naming.{naming_of};
 ghost use Rattle.xm_report.specs.Lines as spec;
 ghost use Rattle.xm_report.specs.Lines.{channel_fault, pair_fault, path_line, signal_text, signals_text, which_text};
-ghost use Rattle.xm_report.specs.Seen.{document_fault, tape_fault};
+ghost use Rattle.xm_shape.specs.Gives.{fault_of};
+ghost use Rattle.xm_tape.specs.Gives as tape;
 
 use crate::pieces::{push_count, push_name};
 use std::alloc::Global;
@@ -161,21 +162,12 @@ fn limit_line(alloc: Global, which: Which, count: u64) -> Result<Text, OutOfMemo
     Ok(text)
 }
 
-/// One piece of bytes as a text.
-fn text_of(alloc: Global, bytes: &[u8]) -> Result<Text, OutOfMemory>
-    ensures { IfOk result (λ text. text.items ≡ bytes.now) }
-{
-    let mut text = Text::new(alloc);
-    text.push_bytes(bytes)?;
-    Ok(text)
-}
-
-/// The line of a document's first fault. (Of want of memory no clause speaks.)
+/// The line of a document's first fault. Of want of memory no clause speaks.
 pub fn document_line(alloc: Global, fault: &DocFault) -> Result<Text, OutOfMemory>
-    ensures { (it : _) → document_fault fault.now ≡ Some it → IfOk result (λ text. text.items ≡ spec.document_line it) }
+    ensures { (it : _) → fault_of fault.now ≡ Some it → IfOk result (λ text. text.items ≡ spec.document_line it) }
 {
     match fault {
-        DocFault::NotJson => text_of(alloc, b"document: not JSON\n"),
+        DocFault::NotJson => Text::from_bytes(alloc, b"document: not JSON\n"),
         DocFault::Shape(path) => fault_at(alloc, b"document: shape", path),
         DocFault::UnknownKind(path) => fault_at(alloc, b"document: unknown kind", path),
         DocFault::UnknownColour(path) => fault_at(alloc, b"document: unknown colour", path),
@@ -183,7 +175,7 @@ pub fn document_line(alloc: Global, fault: &DocFault) -> Result<Text, OutOfMemor
         DocFault::SameName(path) => fault_at(alloc, b"document: same name", path),
         DocFault::Limit(which, count) => limit_line(alloc, *which, *count),
         DocFault::Wiring(fault, names) => wiring_line(alloc, names, *fault),
-        DocFault::OutOfMemory => text_of(alloc, b"memory\n"),
+        DocFault::OutOfMemory => Text::from_bytes(alloc, b"memory\n"),
     }
 }
 
@@ -221,15 +213,15 @@ fn cycles_line(alloc: Global, count: u64) -> Result<Text, OutOfMemory>
     Ok(text)
 }
 
-/// The line of a tape's first fault. (Of want of memory no clause speaks.)
+/// The line of a tape's first fault. Of want of memory no clause speaks.
 pub fn tape_line(alloc: Global, fault: &TapeFault) -> Result<Text, OutOfMemory>
-    ensures { (it : _) → tape_fault fault.now ≡ Some it → IfOk result (λ text. text.items ≡ spec.tape_line it) }
+    ensures { (it : _) → tape.fault_of fault.now ≡ Some it → IfOk result (λ text. text.items ≡ spec.tape_line it) }
 {
     match fault {
         TapeFault::TapeShape(path) => fault_at(alloc, b"tape: shape", path),
         TapeFault::TapeLimit(count) => cycles_line(alloc, *count),
         TapeFault::RowLength(row, bytes) => row_line(alloc, *row, *bytes),
         TapeFault::BadMark(row, oracle) => mark_line(alloc, *row, *oracle),
-        TapeFault::OutOfMemory => text_of(alloc, b"memory\n"),
+        TapeFault::OutOfMemory => Text::from_bytes(alloc, b"memory\n"),
     }
 }

@@ -7,7 +7,7 @@ use Rattle.std.proofs.lemmas.List.Elements.{All-head, All-cons, All-nil, All-pus
 use Rattle.xm_rows.specs.declared.row.Entry.{Entry}
 use Rattle.xm_rows.specs.Row.{Fits128, IsRising, coefficient}
 use Rattle.xm_rows.specs.Combination.{DifferenceFits}
-use Rattle.xm_rows.specs.Merging.{IsMerge, StartsAt, behind}
+use Rattle.xm_rows.specs.Inner.Merging.{IsMerge, StartsAt, behind}
 use Rattle.xm_rows.proofs.Entries.{own_column, other_column, coefficient-append, coefficient_absent, rising_tail, rising_above, rising_push, later_coefficient}
 
 -- below the column `low` all is merged into out, and from it on all is left

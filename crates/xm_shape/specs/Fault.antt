@@ -2,7 +2,7 @@
 use Rattle.std.specs.Prelude.{ℕ}
 use Rattle.xm_json.specs.Path.{Path}
 use Rattle.xm_model.specs.Naming.{Naming}
-use Rattle.xm_model.specs.declared.parts.WiringFault.{WiringFault}
+use Rattle.xm_model.specs.declared.fault.WiringFault.{WiringFault}
 use Rattle.xm_shape.specs.declared.fault.Which.{Which}
 
 -- the path of the root is -

@@ -1,11 +1,10 @@
-pub mod Equal
 pub mod Fault
 pub mod Gives
-pub mod Kinds
+pub mod Inner
+pub mod Lemmas
 pub mod NamedNet
 pub mod Names
 pub mod PortViews
 pub mod Shape
-pub mod Uses
 pub mod Versions
 pub mod Views

@@ -1,9 +1,9 @@
 -- A document by its names, before they are numbered.
 use Rattle.std.specs.Prelude.{ℕ, List, [], ◌∷◌, map, codes}
 use Rattle.std.specs.List.{flat_map}
-use Rattle.xm_model.specs.declared.parts.Side.{Side}
-use Rattle.xm_model.specs.declared.parts.SinkMode.{SinkMode}
-use Rattle.xm_model.specs.declared.parts.SourceMode.{SourceMode}
+use Rattle.xm_model.specs.declared.primitive.Side.{Side}
+use Rattle.xm_model.specs.declared.primitive.SinkMode.{SinkMode}
+use Rattle.xm_model.specs.declared.primitive.SourceMode.{SourceMode}
 use Rattle.xm_shape.specs.Names.{Name, first_uses}
 
 -- the members of a map, in byte order: a colour, and the colour that it becomes

@@ -9,12 +9,12 @@ use Rattle.xm_json.specs.Members.{number_member, only, optional, required, text_
 use Rattle.xm_json.specs.Path.{Path, member_of, place_of}
 use Rattle.xm_json.specs.Values.{list_at, number_at, text_at, texts_at}
 use Rattle.xm_json.specs.WholeNumbers.{has_whole}
-use Rattle.xm_model.specs.declared.parts.Side.{Side}
-use Rattle.xm_model.specs.declared.parts.Side.TheVariants.{A, B}
-use Rattle.xm_model.specs.declared.parts.SinkMode.{SinkMode}
-use Rattle.xm_model.specs.declared.parts.SinkMode.TheVariants as sink_mode
-use Rattle.xm_model.specs.declared.parts.SourceMode.{SourceMode}
-use Rattle.xm_model.specs.declared.parts.SourceMode.TheVariants as source_mode
+use Rattle.xm_model.specs.declared.primitive.Side.{Side}
+use Rattle.xm_model.specs.declared.primitive.Side.TheVariants.{A, B}
+use Rattle.xm_model.specs.declared.primitive.SinkMode.{SinkMode}
+use Rattle.xm_model.specs.declared.primitive.SinkMode.TheVariants as sink_mode
+use Rattle.xm_model.specs.declared.primitive.SourceMode.{SourceMode}
+use Rattle.xm_model.specs.declared.primitive.SourceMode.TheVariants as source_mode
 use Rattle.xm_model.specs.Steps.{◌>>=◌, check, demand, each}
 use Rattle.xm_shape.specs.NamedNet.{AllowEntry, NamedNet, NamedKind, NamedPrimitive, Table, channel_names, fork, function, join, merge, queue, sink, source, switch}
 use Rattle.xm_shape.specs.Fault.{Fault, shape, unknown_kind}

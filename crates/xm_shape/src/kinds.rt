@@ -6,7 +6,7 @@ ghost use Rattle.xm_json.specs.Gives.{Gives};
 ghost use Rattle.xm_json.specs.Members as members;
 ghost use Rattle.xm_shape.specs.Views.{named_kind_of, names_of, named_primitive_of};
 ghost use Rattle.xm_shape.specs.Gives as document;
-ghost use Rattle.xm_shape.specs.Kinds.{plain_kind_of};
+ghost use Rattle.xm_shape.specs.Inner.Kinds.{plain_kind_of};
 ghost use Rattle.xm_shape.specs.Shape as spec;
 
 use crate::fault::DocFault;

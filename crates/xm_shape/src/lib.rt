@@ -15,6 +15,3 @@ pub use fault::{DocFault, Which};
 pub use named_net::{AllowEntry, MapEntry, NamedKind, NamedNet, NamedPrimitive};
 pub use shape::named_net_of;
 pub use versions::{FAIR_VERSION, FIRST_VERSION, INITIAL_VERSION, NEWEST_VERSION};
-
-#[cfg(test)]
-mod tests;

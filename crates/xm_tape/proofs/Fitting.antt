@@ -2,14 +2,15 @@
 use Rattle.std.proofs.Common.{◌≡◌, ℕ, zero, suc, ◌+◌, ◌<◌, Bool, true, false, cond, List, [], ◌∷◌, ◌++◌, length, get_or, Option, Some, None, Ok, refl, sym, ◌∙◌, subst, inl, inr, arith}
 use Rattle.std.proofs.lemmas.Bool.{eqb-true}
 use Rattle.std.specs.Prelude.{◌==◌, slice_get, option_map, option_and_then}
-use Rattle.xm_json.specs.StepFacts.{bound, checked, cons, demanded}
+use Rattle.xm_json.specs.Lemmas.StepFacts.{bound, checked, cons, demanded}
 use Rattle.xm_model.specs.Component.{Component, Fork, Function, Join, Merge, Queue, Sink, Source, Switch}
-use Rattle.xm_model.specs.Lists.{choice_at, choice_or, is_oracle, oracles_below}
+use Rattle.xm_model.specs.Views.{choice_at, choice_or, is_oracle, oracles_below}
 use Rattle.xm_model.specs.Net.{Network}
-use Rattle.xm_model.specs.Run.{ChoiceFits, IsIn, IsReadiness, OffersFrom}
+use Rattle.xm_model.specs.Run.{ChoiceFits, IsReadiness, OffersFrom}
+use Rattle.xm_model.specs.Membership.{IsIn}
 use Rattle.xm_model.specs.Steps.{check, demand, each_from}
-use Rattle.xm_model.specs.declared.parts.Choice.{Choice}
-use Rattle.xm_model.specs.declared.parts.Choice.TheVariants.{Offer, Ready}
+use Rattle.xm_model.specs.declared.state.Choice.{Choice}
+use Rattle.xm_model.specs.declared.state.Choice.TheVariants.{Offer, Ready}
 use Rattle.xm_tape.specs.Draws.{choice_drawn, draw, next_number, number_after, offer_drawn, row_drawn, rows_drawn, seeded_rows}
 use Rattle.xm_tape.specs.Marks.{choice_marked, marks_from, offer_marked, oracles_of, place_marked, ready_marked, row_at}
 use Rattle.xm_tape.specs.Reading.{Draft, repeating, rows_from, seeded, taped_in, written}

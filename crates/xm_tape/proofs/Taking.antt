@@ -2,15 +2,15 @@
 use Rattle.std.proofs.Common.{◌≡◌, ℕ, zero, suc, ◌+◌, ◌*◌, ◌≤◌, Bool, true, false, List, [], length, drop, Result, Ok, Err, refl, sym, ap, ◌∙◌, subst, arith}
 use Rattle.std.specs.Prelude.{nat_le, IfOk}
 use Rattle.std.proofs.lemmas.Bool.{leb-true}
-use Rattle.xm_json.specs.StepFacts.{Fails-bind, bound, checked, each_length}
+use Rattle.xm_json.specs.Lemmas.StepFacts.{Fails-bind, bound, checked, each_length}
 use Rattle.xm_model.specs.Component.{Component}
 use Rattle.xm_model.specs.Net.{Network}
 use Rattle.xm_model.specs.Steps.{check, each_from}
-use Rattle.xm_model.specs.declared.parts.Choice.{Choice}
+use Rattle.xm_model.specs.declared.state.Choice.{Choice}
 use Rattle.xm_tape.specs.Draws.{number_after, rows_drawn}
 use Rattle.xm_tape.specs.Fault.{Fault}
 use Rattle.xm_tape.specs.Gives.{Fails, Gives, fault_of}
-use Rattle.xm_tape.specs.Flat.{IsLonger, added, row_of, rows_at, taped}
+use Rattle.xm_tape.specs.Inner.Flat.{IsLonger, added, row_of, rows_at, taped}
 use Rattle.xm_tape.specs.Marks.{oracles_of, row_at}
 use Rattle.xm_tape.specs.Reading.{Draft, cycles_drafted, check_limits, repeating, rows_from, seeded, taped_in, written}
 use Rattle.xm_tape.specs.Sizes.{most_cycles, most_cycles_by_channels}

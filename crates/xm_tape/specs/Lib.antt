@@ -1,9 +1,8 @@
 pub mod Draws
 pub mod Fault
-pub mod Flat
 pub mod Gives
+pub mod Inner
 pub mod Marks
 pub mod Reading
 pub mod Sizes
 pub mod Taped
-pub mod Views

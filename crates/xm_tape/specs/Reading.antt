@@ -8,7 +8,7 @@ use Rattle.xm_json.specs.Path.{Path, member_of}
 use Rattle.xm_json.specs.Values.{texts_in}
 use Rattle.xm_model.specs.Net.{Network}
 use Rattle.xm_model.specs.Steps.{◌>>=◌, check, demand, each_from}
-use Rattle.xm_model.specs.declared.parts.Choice.{Choice}
+use Rattle.xm_model.specs.declared.state.Choice.{Choice}
 use Rattle.xm_tape.specs.Draws.{seeded_rows}
 use Rattle.xm_tape.specs.Fault.{Fault, tape_limit, tape_shape}
 use Rattle.xm_tape.specs.Marks.{row_at}

@@ -1,10 +1,10 @@
 -- A tape: the choices of a run, cycle by cycle.
 use Rattle.std.specs.Prelude.{ℕ, zero, suc, ◌+◌, ◌*◌, List, [], ◌++◌, length, slice_index_or}
 use Rattle.xm_model.specs.Component.{Component}
-use Rattle.xm_model.specs.Lists.{choice_at}
+use Rattle.xm_model.specs.Views.{choice_at}
 use Rattle.xm_model.specs.Net.{Network}
 use Rattle.xm_model.specs.Run.{TapeFits}
-use Rattle.xm_model.specs.declared.parts.Choice.{Choice}
+use Rattle.xm_model.specs.declared.state.Choice.{Choice}
 
 -- A row has one choice for each source and sink, in primitive order. The rows of the stem come once, and those of the
 -- cycle, one after another, so many times.

@@ -4,7 +4,7 @@ ghost use Rattle.std.specs.Prelude.{◌≡◌, ◌<◌, ◌^◌, IfOk, length, o
 ghost use Rattle.serde_json.specs.View.{view};
 ghost use Rattle.xm_json.specs.Gives.{Gives};
 ghost use Rattle.xm_json.specs.Lent.{lent_texts};
-ghost use Rattle.xm_tape.specs.Views.{IsShort, draft_of};
+ghost use Rattle.xm_tape.specs.Inner.Views.{IsShort, draft_of};
 ghost use Rattle.xm_tape.specs.Reading as spec;
 
 use serde_json::Value;

@@ -3,8 +3,8 @@
 ghost use Rattle.std.specs.Prelude.{◌≡◌, ◌+◌, ◌*◌, ◌<◌, IfOk, OnOk, length};
 ghost use Rattle.xm_model.specs.Component.{component_of};
 ghost use Rattle.xm_tape.specs.Draws as spec;
-ghost use Rattle.xm_tape.specs.Views.{components_of};
-ghost use Rattle.xm_tape.specs.Flat.{IsLonger, added, rows_at};
+ghost use Rattle.xm_tape.specs.Inner.Views.{components_of};
+ghost use Rattle.xm_tape.specs.Inner.Flat.{IsLonger, added, rows_at};
 
 use xm_model::{Choice, List, OutOfMemory, Prim};
 
@@ -87,22 +87,4 @@ pub fn push_drawn_rows(
         number = push_drawn_row(choices, oracles, number)?;
     }
     Ok(())
-}
-
-#[cfg(test)]
-mod tests {
-    use super::next_number;
-
-    #[test]
-    fn the_generator_gives_its_numbers(rt: HostRuntime) {
-        let mut number = 0;
-        for expected in [
-            1442695040888963407,
-            1876011003808476466,
-            11166244414315200793,
-        ] {
-            number = next_number(number);
-            assert_eq!(rt; number, expected);
-        }
-    }
 }

@@ -14,6 +14,3 @@ pub use fault::TapeFault;
 pub use limits::{MOST_CYCLES, MOST_CYCLES_BY_CHANNELS};
 pub use read::read_tape;
 pub use tape::Tape;
-
-#[cfg(test)]
-mod tests;

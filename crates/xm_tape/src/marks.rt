@@ -3,11 +3,11 @@
 ghost use Rattle.std.specs.Prelude.{◌≡◌, ◌+◌, ◌*◌, ◌<◌, ◌≤◌, ◌^◌, OnOk, length};
 ghost use Rattle.xm_json.specs.Lent.{lent_texts};
 ghost use Rattle.xm_model.specs.Component.{component_of};
-ghost use Rattle.xm_model.specs.Sizes.{most_primitives};
+ghost use Rattle.xm_model.specs.Limits.{most_primitives};
 ghost use Rattle.xm_model.specs.Steps.{each_from};
-ghost use Rattle.xm_tape.specs.Views.{components_of};
+ghost use Rattle.xm_tape.specs.Inner.Views.{components_of};
 ghost use Rattle.xm_tape.specs.Gives.{Gives};
-ghost use Rattle.xm_tape.specs.Flat.{IsLonger, added, row_of, rows_at};
+ghost use Rattle.xm_tape.specs.Inner.Flat.{IsLonger, added, row_of, rows_at};
 ghost use Rattle.xm_tape.specs.Marks as spec;
 
 use crate::fault::TapeFault;

@@ -2,9 +2,9 @@
 
 ghost use Rattle.std.specs.Prelude.{◌≡◌, ◌≤◌, IfOk, length, map};
 ghost use Rattle.xm_model.specs.Component.{component_of};
-ghost use Rattle.xm_model.specs.Lists.{is_oracle};
-ghost use Rattle.xm_model.specs.Sizes.{most_primitives};
-ghost use Rattle.xm_tape.specs.Views.{components_of};
+ghost use Rattle.xm_model.specs.Views.{is_oracle};
+ghost use Rattle.xm_model.specs.Limits.{most_primitives};
+ghost use Rattle.xm_tape.specs.Inner.Views.{components_of};
 ghost use Rattle.xm_tape.specs.Marks as spec;
 
 use std::alloc::Global;

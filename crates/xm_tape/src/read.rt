@@ -2,8 +2,8 @@
 
 ghost use Rattle.std.specs.Prelude.{◌≡◌, ◌*◌, ◌≤◌, IfOk, option_map};
 ghost use Rattle.serde_json.specs.View.{view};
-ghost use Rattle.xm_model.specs.Sizes.{most_channels};
-ghost use Rattle.xm_tape.specs.Views.{IsShort, draft_of};
+ghost use Rattle.xm_model.specs.Limits.{most_channels};
+ghost use Rattle.xm_tape.specs.Inner.Views.{IsShort, draft_of};
 ghost use Rattle.xm_tape.specs.Gives.{Gives};
 ghost use Rattle.xm_tape.specs.Reading as spec;
 ghost use Rattle.xm_tape.specs.Sizes.{most_cycles, most_cycles_by_channels};

@@ -31,7 +31,7 @@ impl Model for Tape {
 
     ghost Value = { Taped };
 
-    ghost use Rattle.xm_tape.specs.Flat.{IsKept, taped};
+    ghost use Rattle.xm_tape.specs.Inner.Flat.{IsKept, taped};
 
     ghost view = { λ t. taped t.choices.items t.width t.stem t.cycle t.times };
 
@@ -39,7 +39,7 @@ impl Model for Tape {
 }
 
 impl Tape {
-    ghost use Rattle.xm_tape.specs.Flat.{row_kept};
+    ghost use Rattle.xm_tape.specs.Inner.Flat.{row_kept};
     ghost use Rattle.xm_tape.specs.Taped.{Fits, cycles_of, rows_of};
 
     /// The tape that draws its choices from a seed. All its rows are kept.

@@ -7,9 +7,9 @@ use Rattle.std.proofs.lemmas.List.Elements.{All-append, All-head, All-tail}
 use Rattle.serde_json.specs.Data.{Data, array, member, no_members, number, object, unsigned}
 use Rattle.serde_json.specs.Find.{get}
 use Rattle.serde_json.specs.View.{items_of}
-use Rattle.xm_model.specs.Lines.{name_at}
+use Rattle.xm_model.specs.TextLines.{name_at}
 use Rattle.xm_model.specs.Component.{Component}
-use Rattle.xm_model.specs.Limits.{prim_fits}
+use Rattle.xm_model.specs.Lemmas.PrimitiveFits.{prim_fits}
 use Rattle.xm_model.specs.Naming.{Naming}
 use Rattle.xm_model.specs.Net.{inputs, outputs}
 use Rattle.xm_model.specs.Steps.{each, each_from}
@@ -20,7 +20,7 @@ use Rattle.xm_shape.specs.Shape.{allow_in, are_channels, colours_in, named_net_i
 use Rattle.xm_json.specs.Members.{only}
 use Rattle.xm_shape.specs.Versions.{fair_version, first_version, initial_version, newest_version}
 use Rattle.xm_netlist.specs.Doc.{Doc}
-use Rattle.xm_netlist.specs.FirstFault.{is_wired}
+use Rattle.xm_netlist.specs.Lemmas.FirstFault.{is_wired}
 use Rattle.xm_netlist.specs.Numbered.{allow_of, naming_in, net_of}
 use Rattle.xm_netlist.specs.Reading.{document_of, number_net}
 use Rattle.xm_netlist.specs.Valid.{IsPart, IsValid}

@@ -8,12 +8,12 @@ use Rattle.std.proofs.lemmas.Option.{slice_get_within}
 use Rattle.std.proofs.lemmas.Simd.{map-map}
 use Rattle.serde_json.specs.Data.{Data, array, no_members, put, string}
 use Rattle.serde_json.specs.View.{items_of}
-use Rattle.xm_model.specs.Lines.{name_at}
+use Rattle.xm_model.specs.TextLines.{name_at}
 use Rattle.xm_model.specs.Naming.{Allowed, Naming}
 use Rattle.xm_model.specs.Net.{Network}
 use Rattle.xm_shape.specs.NamedNet.{AllowEntry}
 use Rattle.xm_shape.specs.Names.{Name, number_in}
-use Rattle.xm_netlist.specs.Lengths.{length-set_each}
+use Rattle.xm_netlist.specs.Lemmas.Lengths.{length-set_each}
 use Rattle.xm_netlist.specs.Numbered.{entries_from, listed_in, set_each, slots_of}
 use Rattle.xm_netlist.specs.Valid.{AllowsWithin, RisesWithin, are_distinct}
 use Rattle.xm_writer.specs.Writing.{entries_data, names_data}

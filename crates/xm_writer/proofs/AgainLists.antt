@@ -10,7 +10,7 @@ use Rattle.std.proofs.lemmas.Option.{get_or_from_slice_get, slice_get-get_or, sl
 use Rattle.xm_model.specs.Steps.{each_from}
 use Rattle.xm_shape.specs.Fault.{Fault}
 use Rattle.xm_json.specs.Holding.{each_holds_from}
-use Rattle.xm_netlist.specs.Lengths.{length-numbers_below}
+use Rattle.xm_netlist.specs.Lemmas.Lengths.{length-numbers_below}
 use Rattle.xm_netlist.specs.Numbered.{numbers_below, set_each}
 
 -- each item passes its test

@@ -4,13 +4,13 @@ use Rattle.std.specs.Prelude.{nat_le}
 use Rattle.std.proofs.lemmas.Bool.{le-leb}
 use Rattle.serde_json.specs.Data.{Data, object, string, no_members, member}
 use Rattle.serde_json.specs.View.{items_of}
-use Rattle.xm_model.specs.Lines.{name_at}
+use Rattle.xm_model.specs.TextLines.{name_at}
 use Rattle.xm_model.specs.Component.{Component, Fork, Function, Join, Merge, Queue, Sink, Source, Switch}
 use Rattle.xm_model.specs.Naming.{Naming}
-use Rattle.xm_model.specs.declared.parts.Side.TheVariants.{A, B}
-use Rattle.xm_model.specs.declared.parts.SinkMode.TheVariants as sink_mode
-use Rattle.xm_model.specs.declared.parts.SourceMode.{SourceMode}
-use Rattle.xm_model.specs.declared.parts.SourceMode.TheVariants as source_mode
+use Rattle.xm_model.specs.declared.primitive.Side.TheVariants.{A, B}
+use Rattle.xm_model.specs.declared.primitive.SinkMode.TheVariants as sink_mode
+use Rattle.xm_model.specs.declared.primitive.SourceMode.{SourceMode}
+use Rattle.xm_model.specs.declared.primitive.SourceMode.TheVariants as source_mode
 use Rattle.xm_shape.specs.NamedNet.{NamedKind, NamedPrimitive, Table, fork, function, join, merge, queue, sink, source, switch}
 use Rattle.xm_json.specs.Path.{member_of, place_of}
 use Rattle.xm_shape.specs.Names.{Name}

@@ -6,11 +6,11 @@ use Rattle.std.proofs.lemmas.Bool.{le-leb}
 use Rattle.std.proofs.lemmas.List.{length-map, take-map}
 use Rattle.std.proofs.lemmas.List.Elements.{All-map, All-weaker}
 use Rattle.std.proofs.lemmas.Option.{slice_get-map}
-use Rattle.xm_model.specs.Lines.{name_at}
+use Rattle.xm_model.specs.TextLines.{name_at}
 use Rattle.xm_model.specs.Component.{Component, Fork, Function, Join, Merge, Queue, Sink, Source, Switch}
 use Rattle.xm_model.specs.Naming.{Naming}
 use Rattle.xm_model.specs.Net.{capacity_of}
-use Rattle.xm_model.specs.Sizes.{most_capacities, most_capacity, most_channels, most_colours, most_primitives, most_source_colours}
+use Rattle.xm_model.specs.Limits.{most_capacities, most_capacity, most_channels, most_colours, most_primitives, most_source_colours}
 use Rattle.xm_shape.specs.NamedNet.{AllowEntry, NamedKind, NamedPrimitive, Table, channel_names, ports_of}
 use Rattle.xm_shape.specs.Fault.{Fault}
 use Rattle.xm_json.specs.Path.{place_of}

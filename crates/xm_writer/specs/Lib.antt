@@ -1,2 +1,2 @@
-pub mod MemberSteps
+pub mod Inner
 pub mod Writing

@@ -5,14 +5,14 @@ use Rattle.serde_json.specs.Data.{Data, array, member, Members, no_members, numb
 use Rattle.serde_json.specs.View.{items_of}
 use Rattle.serde_json.specs.Written.{compact_text}
 use Rattle.xm_model.specs.Component.{Component, Fork, Function, Join, Merge, Queue, Sink, Source, Switch}
-use Rattle.xm_model.specs.Lines.{name_at}
+use Rattle.xm_model.specs.TextLines.{name_at}
 use Rattle.xm_model.specs.Naming.{Allowed, Naming}
-use Rattle.xm_model.specs.declared.parts.Side.{Side}
-use Rattle.xm_model.specs.declared.parts.Side.TheVariants.{A, B}
-use Rattle.xm_model.specs.declared.parts.SinkMode.{SinkMode}
-use Rattle.xm_model.specs.declared.parts.SinkMode.TheVariants as sink_mode
-use Rattle.xm_model.specs.declared.parts.SourceMode.{SourceMode}
-use Rattle.xm_model.specs.declared.parts.SourceMode.TheVariants as source_mode
+use Rattle.xm_model.specs.declared.primitive.Side.{Side}
+use Rattle.xm_model.specs.declared.primitive.Side.TheVariants.{A, B}
+use Rattle.xm_model.specs.declared.primitive.SinkMode.{SinkMode}
+use Rattle.xm_model.specs.declared.primitive.SinkMode.TheVariants as sink_mode
+use Rattle.xm_model.specs.declared.primitive.SourceMode.{SourceMode}
+use Rattle.xm_model.specs.declared.primitive.SourceMode.TheVariants as source_mode
 use Rattle.xm_shape.specs.Names.{Name}
 use Rattle.xm_shape.specs.Versions.{fair_version, first_version, initial_version}
 use Rattle.xm_netlist.specs.Doc.{Doc}

@@ -6,6 +6,3 @@ mod primitives;
 mod writing;
 
 pub use writing::write_document;
-
-#[cfg(test)]
-mod tests_writing;

@@ -3,10 +3,10 @@
 ghost use Rattle.std.specs.Prelude.{◌≡◌, IfOk, OnOk, option_map, string_bytes};
 ghost use Rattle.serde_json.specs.Data.{no_members, put as put_member, string};
 ghost use Rattle.serde_json.specs.View.{members_view, view};
-ghost use Rattle.xm_model.specs.Lines.{name_at};
+ghost use Rattle.xm_model.specs.TextLines.{name_at};
 ghost use Rattle.xm_model.specs.Naming.{texts_of};
 ghost use Rattle.xm_netlist.specs.Numbered.{marked_from};
-ghost use Rattle.xm_writer.specs.MemberSteps.{AreTexts, put_if};
+ghost use Rattle.xm_writer.specs.Inner.MemberSteps.{AreTexts, put_if};
 ghost use Rattle.xm_writer.specs.Writing as spec;
 
 use serde_json::{Map, Value};

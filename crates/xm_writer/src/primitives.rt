@@ -4,11 +4,11 @@ ghost use Rattle.std.specs.Prelude.{◌≡◌, IfOk, OnOk, codes};
 ghost use Rattle.serde_json.specs.Data.{number, put as put_member, string, unsigned};
 ghost use Rattle.serde_json.specs.View.{members_view, view};
 ghost use Rattle.xm_model.specs.Component.{component_of};
-ghost use Rattle.xm_model.specs.Lines.{name_at};
+ghost use Rattle.xm_model.specs.TextLines.{name_at};
 ghost use Rattle.xm_model.specs.Naming.{naming_of};
 ghost use Rattle.xm_netlist.specs.Numbered.{marked_from};
-ghost use Rattle.xm_writer.specs.MemberSteps.{HasTexts, in_a_b_put, a_b_out_put, ports_put, put_if, rest_put, in_out_put};
-ghost use Rattle.xm_writer.specs.MemberSteps as spelling;
+ghost use Rattle.xm_writer.specs.Inner.MemberSteps.{HasTexts, in_a_b_put, a_b_out_put, ports_put, put_if, rest_put, in_out_put};
+ghost use Rattle.xm_writer.specs.Inner.MemberSteps as spelling;
 ghost use Rattle.xm_writer.specs.Writing as spec;
 
 use crate::members::{marked_value, put, put_name, put_names, put_some, put_text, table_value};

@@ -5,12 +5,12 @@ ghost use Rattle.std.specs.List.{list_any};
 ghost use Rattle.serde_json.specs.Data.{array, no_members, put as put_member, string};
 ghost use Rattle.serde_json.specs.View.{items_of, members_view, view};
 ghost use Rattle.xm_model.specs.Component.{component_of};
-ghost use Rattle.xm_model.specs.Lines.{name_at};
+ghost use Rattle.xm_model.specs.TextLines.{name_at};
 ghost use Rattle.xm_model.specs.Naming.{allowed_of, naming_of, texts_of};
 ghost use Rattle.xm_netlist.specs.Documented.{doc_of};
 ghost use Rattle.xm_netlist.specs.Reading.{document_in};
 ghost use Rattle.xm_netlist.specs.Valid.{IsValid};
-ghost use Rattle.xm_writer.specs.MemberSteps.{AreTexts, HasTexts};
+ghost use Rattle.xm_writer.specs.Inner.MemberSteps.{AreTexts, HasTexts};
 ghost use Rattle.xm_writer.specs.Writing as spec;
 
 use crate::members::{name_text, names_value, object_if, put, put_at_name, put_some};

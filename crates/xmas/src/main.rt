@@ -6,6 +6,8 @@ ghost use Rattle.std.specs.Prelude.{◌≡◌, IfOk};
 
 use std::alloc::Global;
 use std::env;
+use std::env::Args;
+use std::io::ErrorKind;
 use std::process::ExitCode;
 use xm_commands::{Refusal, plain, refuse};
 use xm_io::{StdSink, StdSource, Words};
@@ -22,15 +24,23 @@ fn main(rt: HostRuntime) -> ExitCode {
     ExitCode::from(status)
 }
 
-/// The words of the command line, without the program's name. Where the system gives none that are text,
-/// there are none.
+/// The words of the command line, without the program's name. Where one of them is no text, there are none.
 fn words_of<R: std::rt::Env + AllocGlobal>(rt: &R) -> Result<Words, OutOfMemory> {
-    let mut words = List::new(rt.alloc());
-    let Ok(args) = env::args(rt) else {
-        return Ok(Words { words });
-    };
+    match env::args(rt) {
+        Ok(args) => words_from(rt.alloc(), args),
+        Err(error) => match error.kind() {
+            ErrorKind::OutOfMemory => Err(OutOfMemory),
+            _ => Ok(Words {
+                words: List::new(rt.alloc()),
+            }),
+        },
+    }
+}
+
+fn words_from(alloc: Global, args: Args) -> Result<Words, OutOfMemory> {
+    let mut words = List::new(alloc);
     for word in args.skip(1) {
-        words.push(text_of(rt.alloc(), word.as_str())?)?;
+        words.push(text_of(alloc, word.as_str())?)?;
     }
     Ok(Words { words })
 }

@@ -1,9 +1,9 @@
 use Rattle.std.proofs.Common.{◌≡◌, ◌<◌, ◌+◌, ◌-◌, ◌^◌, ◌++◌, ◌∙◌, ℕ, List, ap, ap₂, arith, sym, refl}
 use Rattle.std.proofs.lemmas.List.{append-nil}
-use Rattle.xm_io.specs.Appending.{Appends-then}
+use Rattle.xm_io.specs.Lemmas.Appending.{Appends-then}
 use Rattle.xm_model.specs.Naming.{naming_of}
 use Rattle.xm_tape.specs.Taped.{cycles_of}
-use Rattle.xm_trace.specs.Joining.{follows_run, lines_joined, moved_next, rest_of}
+use Rattle.xm_trace.specs.Lemmas.Joining.{follows_run, lines_joined, moved_next, rest_of}
 use Rattle.xm_trace.specs.Text.{end_text, round_lines}
 use Rattle.xm_commands.proofs.Fronts.{appends_nothing, appends_same, front_more, front_of, on_err, on_err_goes, on_ok_goes}
 use Rattle.xm_commands.proofs.running.write_run.Goals as goal
@@ -76,7 +76,7 @@ loop-from-preserved g c =
       channels = c.in_ok-lines.ensures.channels ∙ before.channels;
       colours = c.in_ok-lines.ensures.colours ∙ before.colours;
       had = λ s φ run. c.in_ok-lines.ensures.had φ (follows s φ run);
-      unharmed = c.in_ok-write_text.ensures.kept ∙ before.unharmed;
+      unharmed = c.in_ok-write_text.ensures.cause.kept ∙ before.unharmed;
       written = λ s φ run.
           appends_same (g.K.Sink.held c.args.out.now) (g.K.Sink.held c.write_text.new.out) _ _
           (lines_joined c.rounds_join.ensures (naming_of c.args.names.now) φ c.loop-from.from told.cycles part.cycles c.round_end-to.result c.in_ok-lines.lines.items before.cycles end (c.in_ok-lines.ensures.text φ (follows s φ run)))

@@ -1,29 +1,75 @@
-use Rattle.std.proofs.Common.{inr, refl, sym, subst, ◌∙◌, ap, ℕ, ◌≡◌}
-use Rattle.xm_commands.specs.Answers.{Tells, is_of_input}
-use Rattle.xm_commands.proofs.Whys.{why_complete, why_told}
-use Rattle.xm_commands.specs.Causes.{IsOutput}
-use Rattle.xm_commands.specs.declared.command.Command.{Command}
-use Rattle.xm_commands.specs.declared.refusal.Refusal.TheVariants as refusal
+use Rattle.std.proofs.Common.{◌≡◌, ◌∙◌, ◌⊎◌, ℕ, ap, inr, sym, subst}
+use Rattle.xm_commands.proofs.Whys.{called_is, some_called, why_called, why_complete, why_front, why_known, why_memory, why_quiet, why_read, why_read_unharmed, why_read_within, why_refused, why_told, why_too_long}
+use Rattle.xm_commands.proofs.Whys.{why_unknown, why_unread, why_unwritten, why_words, why_write, why_write_unharmed}
+use Rattle.xm_commands.specs.Status.{IsRefused, Tells, is_of_input, is_status}
+use Rattle.xm_commands.specs.Inner.WhyEnded.{change}
+use Rattle.xm_commands.specs.Words.{command_of}
 use Rattle.xm_commands.proofs.top.plain.Goals as goal
 
-pub returns-in-Ok-None-clause-told : goal.returns-in-Ok-None-clause-told
-returns-in-Ok-None-clause-told g c = λ some other.
-    subst (λ (n : ℕ). Tells n (g.E.Sink.held c.args.err.now) (g.E.Sink.held c.refuse.new.err) (g.E.Sink.faults c.args.err.now) (g.E.Sink.faults c.refuse.new.err)) (sym c.refuse.ensures.status)
-    (why_told refusal.Words (g.E.Sink.held c.args.err.now) (g.E.Sink.held c.refuse.new.err) (g.E.Sink.faults c.args.err.now) (g.E.Sink.faults c.refuse.new.err) refl c.refuse.ensures.told c.refuse.ensures.told_whole)
+pub returns-in-Err-clause-words : goal.returns-in-Err-clause-words
+returns-in-Err-clause-words g c = λ is. why_words (change g.S.Source.left g.S.Source.faults c.args.source.now c.obey_words.new.source) (change g.K.Sink.held g.K.Sink.faults c.args.out.now c.obey_words.new.out) (command_of c.args.words.now) c.in-Err.refusal c.in-Err.ensures (sym c.refuse.ensures.status ∙ is)
 
-pub returns-in-Err-obey-clause-complete : goal.returns-in-Err-obey-clause-complete
-returns-in-Err-obey-clause-complete g c = λ command bytes text called is within output no_read no_write.
-    let same : command ≡ c.in-Ok-Some.command = (let a = c.command_of.ensures in let b = c.in-Ok-Some.is in let d = c.in-Ok-Some.field-0-is in let e = c.in-Ok-Some.ensures in cc) in
-    inr (c.refuse-in-Err-obey.ensures.status
-    ∙ why_complete _ c.in-Ok-Some.command _ c.no_loop.ensures bytes text is within (subst (λ (x : Command). IsOutput bytes x text) same output) no_read no_write c.in-Err-obey.refusal c.in-Err-obey.ensures.err)
+pub returns-in-Err-clause-read : goal.returns-in-Err-clause-read
+returns-in-Err-clause-read g c = λ is. why_read (change g.S.Source.left g.S.Source.faults c.args.source.now c.obey_words.new.source) (change g.K.Sink.held g.K.Sink.faults c.args.out.now c.obey_words.new.out) (command_of c.args.words.now) c.in-Err.refusal c.in-Err.ensures (sym c.refuse.ensures.status ∙ is)
 
-pub returns-in-Err-obey-clause-told : goal.returns-in-Err-obey-clause-told
-returns-in-Err-obey-clause-told g c = λ some other.
-    subst (λ (n : ℕ). Tells n (g.E.Sink.held c.args.err.now) (g.E.Sink.held c.refuse-in-Err-obey.new.err) (g.E.Sink.faults c.args.err.now) (g.E.Sink.faults c.refuse-in-Err-obey.new.err)) (sym c.refuse-in-Err-obey.ensures.status)
-    (why_told c.in-Err-obey.refusal (g.E.Sink.held c.args.err.now) (g.E.Sink.held c.refuse-in-Err-obey.new.err) (g.E.Sink.faults c.args.err.now) (g.E.Sink.faults c.refuse-in-Err-obey.new.err)
-    (ap is_of_input (sym c.refuse-in-Err-obey.ensures.status) ∙ other) c.refuse-in-Err-obey.ensures.told c.refuse-in-Err-obey.ensures.told_whole)
+pub returns-in-Err-clause-read_within : goal.returns-in-Err-clause-read_within
+returns-in-Err-clause-read_within g c = λ is. why_read_within (change g.S.Source.left g.S.Source.faults c.args.source.now c.obey_words.new.source) (change g.K.Sink.held g.K.Sink.faults c.args.out.now c.obey_words.new.out) (command_of c.args.words.now) c.in-Err.refusal c.in-Err.ensures (sym c.refuse.ensures.status ∙ is)
+
+pub returns-in-Err-clause-too_long : goal.returns-in-Err-clause-too_long
+returns-in-Err-clause-too_long g c = λ is. why_too_long (change g.S.Source.left g.S.Source.faults c.args.source.now c.obey_words.new.source) (change g.K.Sink.held g.K.Sink.faults c.args.out.now c.obey_words.new.out) (command_of c.args.words.now) c.in-Err.refusal c.in-Err.ensures (sym c.refuse.ensures.status ∙ is)
+
+pub returns-in-Err-clause-write : goal.returns-in-Err-clause-write
+returns-in-Err-clause-write g c = λ is. why_write (change g.S.Source.left g.S.Source.faults c.args.source.now c.obey_words.new.source) (change g.K.Sink.held g.K.Sink.faults c.args.out.now c.obey_words.new.out) (command_of c.args.words.now) c.in-Err.refusal c.in-Err.ensures (sym c.refuse.ensures.status ∙ is)
+
+pub returns-in-Err-clause-unread : goal.returns-in-Err-clause-unread
+returns-in-Err-clause-unread g c = λ is. why_unread (change g.S.Source.left g.S.Source.faults c.args.source.now c.obey_words.new.source) (change g.K.Sink.held g.K.Sink.faults c.args.out.now c.obey_words.new.out) (command_of c.args.words.now) c.in-Err.refusal c.in-Err.ensures is
+
+pub returns-in-Err-clause-unwritten : goal.returns-in-Err-clause-unwritten
+returns-in-Err-clause-unwritten g c = λ is. why_unwritten (change g.S.Source.left g.S.Source.faults c.args.source.now c.obey_words.new.source) (change g.K.Sink.held g.K.Sink.faults c.args.out.now c.obey_words.new.out) (command_of c.args.words.now) c.in-Err.refusal c.in-Err.ensures is
+
+pub returns-in-Err-clause-unknown : goal.returns-in-Err-clause-unknown
+returns-in-Err-clause-unknown g c = λ none. subst (λ (n : ℕ). (n ≡ 2) ⊎ (n ≡ 9)) (sym c.refuse.ensures.status) (why_unknown (change g.S.Source.left g.S.Source.faults c.args.source.now c.obey_words.new.source) (change g.K.Sink.held g.K.Sink.faults c.args.out.now c.obey_words.new.out) (command_of c.args.words.now) c.in-Err.refusal c.in-Err.ensures none)
+
+pub returns-in-Err-clause-read_unharmed : goal.returns-in-Err-clause-read_unharmed
+returns-in-Err-clause-read_unharmed g c = λ other. why_read_unharmed (change g.S.Source.left g.S.Source.faults c.args.source.now c.obey_words.new.source) (change g.K.Sink.held g.K.Sink.faults c.args.out.now c.obey_words.new.out) (command_of c.args.words.now) c.in-Err.refusal c.in-Err.ensures (λ is. other (c.refuse.ensures.status ∙ is))
+
+pub returns-in-Err-clause-write_unharmed : goal.returns-in-Err-clause-write_unharmed
+returns-in-Err-clause-write_unharmed g c = λ other. why_write_unharmed (change g.S.Source.left g.S.Source.faults c.args.source.now c.obey_words.new.source) (change g.K.Sink.held g.K.Sink.faults c.args.out.now c.obey_words.new.out) (command_of c.args.words.now) c.in-Err.refusal c.in-Err.ensures (λ same. ap g.K.Sink.faults same) (λ is. other (c.refuse.ensures.status ∙ is))
+
+pub returns-in-Err-clause-quiet : goal.returns-in-Err-clause-quiet
+returns-in-Err-clause-quiet g c = λ some not_write not_memory. why_quiet (change g.S.Source.left g.S.Source.faults c.args.source.now c.obey_words.new.source) (change g.K.Sink.held g.K.Sink.faults c.args.out.now c.obey_words.new.out) (command_of c.args.words.now) c.in-Err.refusal c.in-Err.ensures (λ is. not_write (c.refuse.ensures.status ∙ is)) (λ is. not_memory (c.refuse.ensures.status ∙ is))
+
+pub returns-in-Err-clause-front : goal.returns-in-Err-clause-front
+returns-in-Err-clause-front g c = λ it called is. why_front (change g.S.Source.left g.S.Source.faults c.args.source.now c.obey_words.new.source) (change g.K.Sink.held g.K.Sink.faults c.args.out.now c.obey_words.new.out) it c.in-Err.refusal (why_called (change g.S.Source.left g.S.Source.faults c.args.source.now c.obey_words.new.source) (change g.K.Sink.held g.K.Sink.faults c.args.out.now c.obey_words.new.out) (command_of c.args.words.now) it c.in-Err.refusal called c.in-Err.ensures) (sym c.refuse.ensures.status ∙ is)
+
+pub returns-in-Err-clause-memory : goal.returns-in-Err-clause-memory
+returns-in-Err-clause-memory g c = λ it called is. why_memory (change g.S.Source.left g.S.Source.faults c.args.source.now c.obey_words.new.source) (change g.K.Sink.held g.K.Sink.faults c.args.out.now c.obey_words.new.out) it c.in-Err.refusal (why_called (change g.S.Source.left g.S.Source.faults c.args.source.now c.obey_words.new.source) (change g.K.Sink.held g.K.Sink.faults c.args.out.now c.obey_words.new.out) (command_of c.args.words.now) it c.in-Err.refusal called c.in-Err.ensures) (sym c.refuse.ensures.status ∙ is)
+
+pub returns-in-Err-clause-refused : goal.returns-in-Err-clause-refused
+returns-in-Err-clause-refused g c = λ it called is.
+    subst (λ (n : ℕ). IsRefused it n (g.S.Source.left c.args.source.now) (g.S.Source.left c.obey_words.new.source) (g.E.Sink.held c.args.err.now) (g.E.Sink.held c.refuse.new.err) (g.E.Sink.faults c.args.err.now) (g.E.Sink.faults c.refuse.new.err)) (sym c.refuse.ensures.status)
+    (why_refused (change g.S.Source.left g.S.Source.faults c.args.source.now c.obey_words.new.source) (change g.K.Sink.held g.K.Sink.faults c.args.out.now c.obey_words.new.out) it c.in-Err.refusal (g.E.Sink.held c.args.err.now) (g.E.Sink.held c.refuse.new.err) (g.E.Sink.faults c.args.err.now) (g.E.Sink.faults c.refuse.new.err) (why_called (change g.S.Source.left g.S.Source.faults c.args.source.now c.obey_words.new.source) (change g.K.Sink.held g.K.Sink.faults c.args.out.now c.obey_words.new.out) (command_of c.args.words.now) it c.in-Err.refusal called c.in-Err.ensures) c.refuse.ensures.told (ap is_of_input (sym c.refuse.ensures.status) ∙ is))
 
 pub returns-in-Err-clause-told : goal.returns-in-Err-clause-told
 returns-in-Err-clause-told g c = λ some other.
-    subst (λ (n : ℕ). Tells n (g.E.Sink.held c.args.err.now) (g.E.Sink.held c.refuse-in-Err.new.err) (g.E.Sink.faults c.args.err.now) (g.E.Sink.faults c.refuse-in-Err.new.err)) (sym c.refuse-in-Err.ensures.status)
-    (why_told refusal.Memory (g.E.Sink.held c.args.err.now) (g.E.Sink.held c.refuse-in-Err.new.err) (g.E.Sink.faults c.args.err.now) (g.E.Sink.faults c.refuse-in-Err.new.err) refl c.refuse-in-Err.ensures.told c.refuse-in-Err.ensures.told_whole)
+    subst (λ (n : ℕ). Tells n (g.E.Sink.held c.args.err.now) (g.E.Sink.held c.refuse.new.err) (g.E.Sink.faults c.args.err.now) (g.E.Sink.faults c.refuse.new.err)) (sym c.refuse.ensures.status)
+    (why_told c.in-Err.refusal (g.E.Sink.held c.args.err.now) (g.E.Sink.held c.refuse.new.err) (g.E.Sink.faults c.args.err.now) (g.E.Sink.faults c.refuse.new.err) (ap is_of_input (sym c.refuse.ensures.status) ∙ other) c.refuse.ensures.told)
+
+pub returns-in-Err-clause-known : goal.returns-in-Err-clause-known
+returns-in-Err-clause-known g c = ap is_status c.refuse.ensures.status ∙ why_known c.in-Err.refusal
+
+pub returns-in-Err-clause-complete : goal.returns-in-Err-clause-complete
+returns-in-Err-clause-complete g c = λ it bytes text called is within output no_read no_write.
+    inr (c.refuse.ensures.status ∙ why_complete it (change g.S.Source.left g.S.Source.faults c.args.source.now c.obey_words.new.source) (change g.K.Sink.held g.K.Sink.faults c.args.out.now c.obey_words.new.out) c.no_loop.ensures bytes text is within output no_read no_write c.in-Err.refusal (why_called (change g.S.Source.left g.S.Source.faults c.args.source.now c.obey_words.new.source) (change g.K.Sink.held g.K.Sink.faults c.args.out.now c.obey_words.new.out) (command_of c.args.words.now) it c.in-Err.refusal called c.in-Err.ensures))
+
+pub returns-in-Ok-clause-unknown : goal.returns-in-Ok-clause-unknown
+returns-in-Ok-clause-unknown g c = λ none. absurd (some_called _ (command_of c.args.words.now) c.in-Ok.ensures.0 none)
+
+pub returns-in-Ok-clause-unread : goal.returns-in-Ok-clause-unread
+returns-in-Ok-clause-unread g c = λ none. absurd (some_called _ (command_of c.args.words.now) c.in-Ok.ensures.0 none)
+
+pub returns-in-Ok-clause-unwritten : goal.returns-in-Ok-clause-unwritten
+returns-in-Ok-clause-unwritten g c = λ none. absurd (some_called _ (command_of c.args.words.now) c.in-Ok.ensures.0 none)
+
+pub returns-in-Ok-clause-written : goal.returns-in-Ok-clause-written
+returns-in-Ok-clause-written g c = λ it called is. called_is _ (command_of c.args.words.now) it c.in-Ok.ensures.0 called

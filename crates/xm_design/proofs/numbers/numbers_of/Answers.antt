@@ -2,11 +2,11 @@ use Rattle.std.proofs.Common.{◌≡◌, ◌+◌, ap, sym, ◌∙◌, length, ma
 use Rattle.std.proofs.lemmas.List.{length-map}
 use Rattle.xm_colours.specs.Family.{colours_at}
 use Rattle.xm_colours.specs.Pairs.{queue_pairs_at}
-use Rattle.xm_design.specs.Components.{component_at}
+use Rattle.xm_design.specs.Lemmas.Components.{component_at}
 use Rattle.xm_design.proofs.Counting.{few_more, numbers_more, numbers_none, oracles_few, oracles_more, oracles_none, total_more, total_none}
 use Rattle.xm_design.specs.Numbers.{pairs_below}
 use Rattle.xm_model.specs.Component.{Component, component_of}
-use Rattle.xm_model.specs.Lists.{oracles_below}
+use Rattle.xm_model.specs.Views.{oracles_below}
 use Rattle.xm_design.proofs.numbers.numbers_of.Goals as goal
 
 pub loop-p-init : goal.loop-p-init

@@ -2,7 +2,7 @@ use Rattle.std.proofs.Common.{◌≡◌, ℕ, ◌*◌, ◌≤◌, map}
 use Rattle.xm_colours.specs.Family.{colours_at}
 use Rattle.xm_design.specs.Numbers.{AreNumbers, pairs_below}
 use Rattle.xm_model.specs.Component.{component_of}
-use Rattle.xm_model.specs.Lists.{oracles_below}
+use Rattle.xm_model.specs.Views.{oracles_below}
 use Rattle.xm_design.proofs.numbers.numbers_of.Given as goal
 
 abbrev pub invariant-loop-p : goal.invariant-loop-p

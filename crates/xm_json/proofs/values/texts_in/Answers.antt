@@ -4,7 +4,7 @@ use Rattle.serde_json.specs.View.{view}
 use Rattle.xm_json.specs.Lent.{lent_texts}
 use Rattle.xm_json.specs.Path.{place_of}
 use Rattle.xm_json.specs.Values.{text_at}
-use Rattle.xm_json.specs.Walk.{goes_on}
+use Rattle.xm_json.specs.Lemmas.Walk.{goes_on}
 use Rattle.xm_json.proofs.values.texts_in.Goals as goal
 
 pub loop-place-preserved : goal.loop-place-preserved

@@ -4,7 +4,7 @@ use Rattle.xm_model.specs.Steps.{each_from}
 use Rattle.xm_json.specs.Lent.{lent_texts}
 use Rattle.xm_json.specs.Path.{place_of}
 use Rattle.xm_json.specs.Values.{text_at}
-use Rattle.xm_json.specs.Walk.{with_front}
+use Rattle.xm_json.specs.Lemmas.Walk.{with_front}
 use Rattle.xm_json.proofs.values.texts_in.Given as goal
 
 abbrev pub invariant-loop-place : goal.invariant-loop-place

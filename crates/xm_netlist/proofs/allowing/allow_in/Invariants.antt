@@ -1,7 +1,7 @@
 use Rattle.std.proofs.Common.{◌≡◌, ◌++◌, drop, map}
 use Rattle.xm_model.specs.Naming.{allowed_of}
 use Rattle.xm_netlist.specs.Numbered.{entries_from}
-use Rattle.xm_netlist.specs.Placed.{plain_slots_of}
+use Rattle.xm_netlist.specs.Inner.Placed.{plain_slots_of}
 use Rattle.xm_netlist.proofs.allowing.allow_in.Given as goal
 
 abbrev pub invariant-loop-channel : goal.invariant-loop-channel

@@ -1,7 +1,7 @@
 use Rattle.std.proofs.Common.{◌∙◌, length, string_bytes, arith, ap}
 use Rattle.std.proofs.lemmas.List.{length-map}
 use Rattle.xm_shape.specs.Views.{names_of}
-use Rattle.xm_netlist.specs.Lengths.{length-marks_of}
+use Rattle.xm_netlist.specs.Lemmas.Lengths.{length-marks_of}
 use Rattle.xm_netlist.proofs.allowing.listed_colours.Goals as goal
 
 pub marked_places-requires : goal.marked_places-requires

@@ -1,6 +1,6 @@
 use Rattle.std.proofs.Common.{◌≡◌, drop, map}
 use Rattle.xm_shape.specs.Views.{allow_entry_of}
-use Rattle.xm_netlist.specs.Placed.{plain_slots_of, slots_with}
+use Rattle.xm_netlist.specs.Inner.Placed.{plain_slots_of, slots_with}
 use Rattle.xm_netlist.proofs.allowing.set_slots.Given as goal
 
 abbrev pub invariant-loop-entry : goal.invariant-loop-entry

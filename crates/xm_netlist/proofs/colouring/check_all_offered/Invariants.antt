@@ -1,7 +1,7 @@
 use Rattle.std.proofs.Common.{◌≡◌, drop, take}
 use Rattle.xm_shape.specs.Views.{names_of}
 use Rattle.xm_json.specs.Holding.{each_holds_from}
-use Rattle.xm_netlist.specs.CheckSteps.{check_all_offered}
+use Rattle.xm_netlist.specs.Inner.CheckSteps.{check_all_offered}
 use Rattle.xm_netlist.specs.Checks.{check_offered}
 use Rattle.xm_netlist.proofs.colouring.check_all_offered.Given as goal
 

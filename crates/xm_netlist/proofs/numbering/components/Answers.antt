@@ -1,5 +1,5 @@
 use Rattle.std.proofs.Common.{◌≤◌}
-use Rattle.xm_model.specs.Sizes.{most_capacity}
+use Rattle.xm_model.specs.Limits.{most_capacity}
 use Rattle.xm_shape.specs.NamedNet.{NamedPrimitive}
 use Rattle.xm_shape.specs.Views.{named_primitive_of}
 use Rattle.xm_netlist.specs.Checks.{capacity_in}

@@ -1,6 +1,6 @@
 use Rattle.std.proofs.Common.{◌≡◌, drop}
 use Rattle.xm_shape.specs.Views.{names_of, table_of}
-use Rattle.xm_netlist.specs.Placed.{with_images}
+use Rattle.xm_netlist.specs.Inner.Placed.{with_images}
 use Rattle.xm_netlist.proofs.numbering.set_images.Given as goal
 
 abbrev pub invariant-loop-image : goal.invariant-loop-image

@@ -1,6 +1,6 @@
 use Rattle.std.proofs.Common.{◌≡◌, drop}
 use Rattle.xm_shape.specs.Views.{names_of}
-use Rattle.xm_netlist.specs.Placed.{with_marks}
+use Rattle.xm_netlist.specs.Inner.Placed.{with_marks}
 use Rattle.xm_netlist.proofs.numbering.set_marks.Given as goal
 
 abbrev pub invariant-loop-name : goal.invariant-loop-name

@@ -1,13 +1,13 @@
 use Rattle.std.proofs.Common.{◌∙◌, Err, List, ap, ap₂, map, refl, subst, sym}
 use Rattle.xm_model.specs.Naming.{Naming}
 use Rattle.xm_model.specs.Net.{IsWellWired}
-use Rattle.xm_model.specs.declared.parts.WiringFault.{WiringFault}
+use Rattle.xm_model.specs.declared.fault.WiringFault.{WiringFault}
 use Rattle.xm_shape.specs.Fault.{wiring}
 use Rattle.xm_shape.specs.Views.{allow_entry_of, plain_net_of}
 use Rattle.xm_shape.specs.declared.named_net.AllowEntry as code
-use Rattle.xm_netlist.specs.FirstFault.{is_wired, not_wired}
+use Rattle.xm_netlist.specs.Lemmas.FirstFault.{is_wired, not_wired}
 use Rattle.xm_netlist.specs.Numbered.{naming_in, net_of}
-use Rattle.xm_netlist.specs.Placed.{numbered_allow}
+use Rattle.xm_netlist.specs.Inner.Placed.{numbered_allow}
 use Rattle.xm_netlist.proofs.Drafts.{are_few, same_allow, same_names}
 use Rattle.xm_netlist.proofs.reading.made_of.Goals as goal
 

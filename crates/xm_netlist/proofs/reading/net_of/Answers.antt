@@ -2,15 +2,15 @@ use Rattle.std.proofs.Common.{◌≡◌, ◌≤◌, ◌∙◌, All, ℕ, List, a
 use Rattle.std.proofs.lemmas.Result.{IfOk-weaker}
 use Rattle.xm_model.specs.Component.{component_of}
 use Rattle.xm_model.specs.Net.{IsFirstFault, Network, network_of}
-use Rattle.xm_model.specs.Sizes.{most_capacity}
-use Rattle.xm_model.specs.declared.parts.Primitive.{Primitive}
+use Rattle.xm_model.specs.Limits.{most_capacity}
+use Rattle.xm_model.specs.declared.primitive.Primitive.{Primitive}
 use Rattle.xm_shape.specs.Views.{plain_net_of, named_primitive_of}
 use Rattle.xm_shape.specs.declared.named_net.NamedNet as code_draft
 use Rattle.xm_shape.specs.declared.named_net.NamedPrimitive as code
 use Rattle.xm_netlist.specs.Numbered.{net_of}
-use Rattle.xm_netlist.specs.Placed.{numbered_primitive}
+use Rattle.xm_netlist.specs.Inner.Placed.{numbered_primitive}
 use Rattle.xm_netlist.specs.Checks.{capacity_in}
-use Rattle.xm_netlist.specs.Making.{AreSound}
+use Rattle.xm_netlist.specs.Inner.Making.{AreSound}
 use Rattle.xm_netlist.specs.declared.numbering.Numbers.{Numbers}
 use Rattle.xm_netlist.proofs.Drafts.{are_few, net_within, same_net}
 use Rattle.xm_netlist.proofs.Limited.{limits}

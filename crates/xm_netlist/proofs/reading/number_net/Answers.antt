@@ -3,8 +3,8 @@ use Rattle.std.proofs.lemmas.Result.{err_from_is_err_and}
 use Rattle.serde_json.specs.View.{view}
 use Rattle.xm_shape.specs.Gives.{fault_of}
 use Rattle.xm_shape.specs.Views.{plain_net_of}
-use Rattle.xm_json.specs.StepFacts.{Fails-bind}
-use Rattle.xm_netlist.specs.Making.{all_tests}
+use Rattle.xm_json.specs.Lemmas.StepFacts.{Fails-bind}
+use Rattle.xm_netlist.specs.Inner.Making.{all_tests}
 use Rattle.xm_netlist.proofs.Drafts.{numbered_by_tests, numbered_made}
 use Rattle.xm_netlist.proofs.reading.number_net.Goals as goal
 

@@ -1,6 +1,6 @@
 use Rattle.std.proofs.Common.{◌≤◌, ℕ, arith, subst, sym}
 use Rattle.std.proofs.lemmas.Grind.{common_steps}
-use Rattle.xm_model.specs.Sizes.{most_capacity}
+use Rattle.xm_model.specs.Limits.{most_capacity}
 use Rattle.xm_shape.specs.NamedNet.{NamedPrimitive}
 use Rattle.xm_shape.specs.Views.{named_primitive_of}
 use Rattle.xm_netlist.specs.Checks.{capacity_in}

@@ -1,6 +1,6 @@
 use Rattle.std.proofs.Common.{◌≡◌, ◌*◌, ◌≤◌, map, take}
 use Rattle.std.specs.Prelude.{sum_by}
-use Rattle.xm_model.specs.Sizes.{most_capacity}
+use Rattle.xm_model.specs.Limits.{most_capacity}
 use Rattle.xm_shape.specs.Views.{named_primitive_of}
 use Rattle.xm_netlist.specs.Checks.{capacity_in}
 use Rattle.xm_netlist.proofs.sizes.capacities.Given as goal

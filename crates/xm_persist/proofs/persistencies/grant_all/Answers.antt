@@ -1,7 +1,7 @@
 use Rattle.std.proofs.Common.{arith}
 use Rattle.std.proofs.lemmas.Option.{slice_get-get_or}
 use Rattle.xm_persist.proofs.Granting.{exact_more}
-use Rattle.xm_persist.specs.Persistencies.{granted_in}
+use Rattle.xm_persist.specs.Inner.Persistencies.{granted_in}
 use Rattle.xm_persist.proofs.persistencies.grant_all.Goals as goal
 
 pub grant-requires-clause-channel : goal.grant-requires-clause-channel

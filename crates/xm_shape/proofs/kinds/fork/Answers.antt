@@ -1,7 +1,7 @@
 use Rattle.std.proofs.Common.{refl}
 use Rattle.std.proofs.lemmas.Result.{err_from_is_err_and}
 use Rattle.xm_json.specs.Gives.{path_of}
-use Rattle.xm_json.specs.StepFacts.{Fails-bind}
+use Rattle.xm_json.specs.Lemmas.StepFacts.{Fails-bind}
 use Rattle.xm_shape.specs.Shape.{fork_in}
 use Rattle.xm_shape.proofs.kinds.fork.Goals as goal
 

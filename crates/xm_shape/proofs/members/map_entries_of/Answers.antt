@@ -1,7 +1,7 @@
 use Rattle.std.proofs.Common.{◌≡◌, ◌∷◌, [], ◌++◌, ◌∙◌, List, Result, Ok, sym}
 use Rattle.std.proofs.lemmas.List.{map_push}
 use Rattle.xm_json.specs.Path.{Path}
-use Rattle.xm_json.specs.Walk.{regroup, with_front}
+use Rattle.xm_json.specs.Lemmas.Walk.{regroup, with_front}
 use Rattle.xm_model.specs.Steps.{◌>>=◌}
 use Rattle.xm_shape.specs.NamedNet.{Table}
 use Rattle.xm_shape.specs.Views.{map_entry_of, table_of}

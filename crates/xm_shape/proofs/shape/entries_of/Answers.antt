@@ -7,7 +7,7 @@ use Rattle.xm_json.specs.Path.{Path, member_of}
 use Rattle.xm_json.specs.Values.{texts_at}
 use Rattle.xm_shape.specs.Names.{Name}
 use Rattle.xm_shape.specs.Shape.{entries_in}
-use Rattle.xm_json.specs.Walk.{regroup, with_front}
+use Rattle.xm_json.specs.Lemmas.Walk.{regroup, with_front}
 use Rattle.xm_shape.proofs.shape.entries_of.Goals as goal
 
 -- the entry of channel k was read

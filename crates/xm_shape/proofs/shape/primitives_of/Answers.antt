@@ -4,7 +4,7 @@ use Rattle.serde_json.specs.View.{view}
 use Rattle.xm_shape.specs.Views.{named_primitive_of}
 use Rattle.xm_json.specs.Path.{place_of}
 use Rattle.xm_shape.specs.Shape.{net, primitive_at}
-use Rattle.xm_json.specs.Walk.{goes_on}
+use Rattle.xm_json.specs.Lemmas.Walk.{goes_on}
 use Rattle.xm_shape.proofs.shape.primitives_of.Goals as goal
 
 pub loop-i-preserved : goal.loop-i-preserved

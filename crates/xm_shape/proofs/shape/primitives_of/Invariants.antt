@@ -4,7 +4,7 @@ use Rattle.xm_model.specs.Steps.{each_from}
 use Rattle.xm_shape.specs.Views.{named_primitive_of}
 use Rattle.xm_json.specs.Path.{place_of}
 use Rattle.xm_shape.specs.Shape.{net, primitive_at}
-use Rattle.xm_json.specs.Walk.{with_front}
+use Rattle.xm_json.specs.Lemmas.Walk.{with_front}
 use Rattle.xm_shape.proofs.shape.primitives_of.Given as goal
 
 abbrev pub invariant-loop-i : goal.invariant-loop-i

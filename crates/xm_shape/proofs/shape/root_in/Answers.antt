@@ -7,7 +7,7 @@ use Rattle.serde_json.specs.View.{view}
 use Rattle.xm_json.specs.Gives.{path_of}
 use Rattle.xm_json.specs.Members.{only}
 use Rattle.xm_json.specs.Path.{Path}
-use Rattle.xm_json.specs.StepFacts.{Fails-bind}
+use Rattle.xm_json.specs.Lemmas.StepFacts.{Fails-bind}
 use Rattle.xm_model.specs.Steps.{◌>>=◌, demand}
 use Rattle.xm_shape.specs.NamedNet.{AllowEntry}
 use Rattle.xm_shape.specs.Names.{Name}

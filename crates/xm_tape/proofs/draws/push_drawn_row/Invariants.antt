@@ -1,7 +1,7 @@
 use Rattle.std.proofs.Common.{◌≡◌, ◌-◌, ◌++◌, length, drop}
-use Rattle.xm_tape.specs.Views.{components_of}
+use Rattle.xm_tape.specs.Inner.Views.{components_of}
 use Rattle.xm_tape.specs.Draws.{number_after, row_drawn}
-use Rattle.xm_tape.specs.Flat.{IsLonger, added}
+use Rattle.xm_tape.specs.Inner.Flat.{IsLonger, added}
 use Rattle.xm_tape.proofs.draws.push_drawn_row.Given as goal
 
 abbrev pub invariant-loop-prim : goal.invariant-loop-prim

@@ -1,7 +1,7 @@
 use Rattle.std.proofs.Common.{◌≡◌, ◌++◌, arith, length-append}
 use Rattle.std.proofs.lemmas.List.{length-map}
-use Rattle.xm_tape.specs.Views.{components_of}
-use Rattle.xm_tape.specs.Flat.{added}
+use Rattle.xm_tape.specs.Inner.Views.{components_of}
+use Rattle.xm_tape.specs.Inner.Flat.{added}
 use Rattle.xm_tape.proofs.Flat.{added_further, drawn_further, longer_further}
 use Rattle.xm_tape.proofs.draws.push_drawn_rows.Goals as goal
 

@@ -1,7 +1,7 @@
 use Rattle.std.proofs.Common.{◌≡◌, ◌-◌, ◌*◌, ◌++◌, length}
-use Rattle.xm_tape.specs.Views.{components_of}
+use Rattle.xm_tape.specs.Inner.Views.{components_of}
 use Rattle.xm_tape.specs.Draws.{rows_drawn}
-use Rattle.xm_tape.specs.Flat.{IsLonger, added, rows_at}
+use Rattle.xm_tape.specs.Inner.Flat.{IsLonger, added, rows_at}
 use Rattle.xm_tape.proofs.draws.push_drawn_rows.Given as goal
 
 abbrev pub invariant-loop-t : goal.invariant-loop-t

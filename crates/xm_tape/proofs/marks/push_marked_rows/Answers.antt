@@ -1,9 +1,9 @@
 use Rattle.std.proofs.Common.{◌≡◌, ◌+◌, ◌++◌, length, arith, length-append}
 use Rattle.std.proofs.lemmas.List.{get_or_default}
-use Rattle.xm_tape.specs.Views.{components_of}
-use Rattle.xm_tape.specs.Flat.{added, row_of}
+use Rattle.xm_tape.specs.Inner.Views.{components_of}
+use Rattle.xm_tape.specs.Inner.Flat.{added, row_of}
 use Rattle.xm_tape.proofs.Flat.{added_further, longer_further, rows_at-further}
-use Rattle.xm_json.specs.Walk.{goes_on}
+use Rattle.xm_json.specs.Lemmas.Walk.{goes_on}
 use Rattle.xm_tape.proofs.marks.push_marked_rows.Goals as goal
 
 pub loop-i-preserved : goal.loop-i-preserved

@@ -1,9 +1,9 @@
 use Rattle.std.proofs.Common.{◌≡◌, ◌+◌, ◌*◌, length, drop}
 use Rattle.xm_model.specs.Steps.{each_from}
-use Rattle.xm_tape.specs.Views.{components_of}
+use Rattle.xm_tape.specs.Inner.Views.{components_of}
 use Rattle.xm_json.specs.Lent.{lent_texts}
-use Rattle.xm_tape.specs.Flat.{IsLonger, added, row_of, rows_at}
-use Rattle.xm_json.specs.Walk.{with_front}
+use Rattle.xm_tape.specs.Inner.Flat.{IsLonger, added, row_of, rows_at}
+use Rattle.xm_json.specs.Lemmas.Walk.{with_front}
 use Rattle.xm_tape.proofs.marks.push_marked_rows.Given as goal
 
 abbrev pub invariant-loop-i : goal.invariant-loop-i

@@ -1,8 +1,8 @@
 use Rattle.std.proofs.Common.{◌≡◌, length, drop}
-use Rattle.xm_tape.specs.Views.{components_of}
-use Rattle.xm_tape.specs.Flat.{IsLonger, added}
+use Rattle.xm_tape.specs.Inner.Views.{components_of}
+use Rattle.xm_tape.specs.Inner.Flat.{IsLonger, added}
 use Rattle.xm_tape.specs.Marks.{marks_from}
-use Rattle.xm_json.specs.Walk.{with_front}
+use Rattle.xm_json.specs.Lemmas.Walk.{with_front}
 use Rattle.xm_tape.proofs.marks.push_marks.Given as goal
 
 abbrev pub invariant-loop-o : goal.invariant-loop-o

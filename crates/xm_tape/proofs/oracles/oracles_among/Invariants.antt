@@ -1,6 +1,6 @@
 use Rattle.std.proofs.Common.{◌≡◌, ◌≤◌, ◌++◌, length, map, drop}
 use Rattle.xm_model.specs.Component.{component_of}
-use Rattle.xm_tape.specs.Views.{components_of}
+use Rattle.xm_tape.specs.Inner.Views.{components_of}
 use Rattle.xm_tape.specs.Marks.{oracles_of}
 use Rattle.xm_tape.proofs.oracles.oracles_among.Given as goal
 

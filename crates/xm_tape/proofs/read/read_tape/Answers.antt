@@ -1,6 +1,6 @@
 use Rattle.std.proofs.Common.{◌≡◌, Ok, ap, ◌∙◌}
 use Rattle.xm_model.specs.Net.{Network}
-use Rattle.xm_tape.specs.Views.{draft_of}
+use Rattle.xm_tape.specs.Inner.Views.{draft_of}
 use Rattle.xm_tape.specs.Reading.{cycles_drafted, check_limits}
 use Rattle.xm_tape.proofs.Taking.{few, fits, kept_by, small}
 use Rattle.xm_tape.proofs.read.read_tape.Goals as goal

@@ -1,7 +1,7 @@
 use Rattle.std.proofs.Common.{arith, ◌∙◌, ap}
 use Rattle.serde_json.specs.Data.{Data, put, string}
 use Rattle.serde_json.specs.View.{members_view}
-use Rattle.xm_model.specs.Lines.{name_at}
+use Rattle.xm_model.specs.TextLines.{name_at}
 use Rattle.xm_model.specs.Naming.{texts_of}
 use Rattle.xm_writer.proofs.Spelled.{changed_all, changed_more, changed_same, view-String}
 use Rattle.xm_writer.proofs.members.changes.Goals as goal

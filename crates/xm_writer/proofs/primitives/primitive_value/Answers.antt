@@ -1,10 +1,10 @@
 use Rattle.std.proofs.Common.{◌∙◌, ap, refl}
 use Rattle.serde_json.specs.Data.{Members, object}
 use Rattle.serde_json.proofs.Views.{view-Object}
-use Rattle.xm_model.specs.Lines.{name_at}
+use Rattle.xm_model.specs.TextLines.{name_at}
 use Rattle.xm_model.specs.Component.{component_of}
 use Rattle.xm_model.specs.Naming.{naming_of}
-use Rattle.xm_writer.specs.MemberSteps.{ports_put, rest_put}
+use Rattle.xm_writer.specs.Inner.MemberSteps.{ports_put, rest_put}
 use Rattle.xm_writer.proofs.InOrder.{component_in_order}
 use Rattle.xm_writer.proofs.primitives.primitive_value.Goals as goal
 

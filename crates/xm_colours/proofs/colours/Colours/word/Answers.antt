@@ -1,7 +1,7 @@
 use Rattle.std.proofs.Common.{List, ℕ, ap, sym, ◌∙◌, ltb-false}
 use Rattle.xm_colours.proofs.Reading.{set_past}
 use Rattle.xm_colours.specs.Family.{colours_at}
-use Rattle.xm_colours.specs.Words.{sets_of}
+use Rattle.xm_colours.specs.Inner.Words.{sets_of}
 use Rattle.xm_colours.proofs.colours.Colours.word.Goals as goal
 
 pub returns-in-None : goal.returns-in-None

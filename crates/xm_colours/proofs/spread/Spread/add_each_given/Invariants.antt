@@ -1,4 +1,4 @@
-use Rattle.xm_colours.specs.Spreading.{HasGiven, IsSpread}
+use Rattle.xm_colours.specs.Inner.Spreading.{HasGiven, IsSpread}
 use Rattle.xm_colours.proofs.spread.Spread.add_each_given.Given as goal
 
 abbrev pub invariant-loop-prim : goal.invariant-loop-prim

@@ -1,8 +1,8 @@
 use Rattle.std.proofs.Common.{length, map, ap, sym, ◌∙◌}
 use Rattle.xm_colours.proofs.Sets.{fit_named}
-use Rattle.xm_colours.specs.Spreading.{given, pair}
+use Rattle.xm_colours.specs.Inner.Spreading.{given, pair}
 use Rattle.xm_model.specs.Component.{component_of}
-use Rattle.xm_model.specs.declared.parts.Primitive.{Primitive}
+use Rattle.xm_model.specs.declared.primitive.Primitive.{Primitive}
 use Rattle.xm_colours.proofs.spread.Spread.add_given.Goals as goal
 
 pub add_all-requires : goal.add_all-requires

@@ -12,5 +12,5 @@ add_sent-requires-clause-fit c = last_fits c.args.net.now c.is_net.ensures _ _ _
 
 pub returns : goal.returns
 returns c =
-    let made = stepped_to c.args.net.now c.is_net.ensures _ _ _ _ c.requires.spread c.take_last-it.ensures.pending c.target.result _ c.prim-prim.ensures c.target.ensures.takes _ _ _ c.take_last-it.ensures.words c.in_ok-add_sent.ensures in
+    let made = stepped_to c.args.net.now c.is_net.ensures _ _ _ _ c.requires.spread c.take_last-it.ensures.pending c.target.result _ c.prim-prim.ensures c.target.ensures.target _ _ _ c.take_last-it.ensures.words c.in_ok-add_sent.ensures in
     record { spread = made.0; less = made.1; kept = made.2 }

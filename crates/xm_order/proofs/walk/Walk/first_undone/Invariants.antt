@@ -1,5 +1,5 @@
 use Rattle.std.proofs.Common.{◌≡◌, ℕ, ◌<◌, Some, slice_get}
-use Rattle.xm_order.specs.Walk.{HasProgress}
+use Rattle.xm_order.specs.Inner.Walk.{HasProgress}
 use Rattle.xm_order.specs.declared.signal.Signal.{Signal}
 use Rattle.xm_order.specs.declared.walk.Progress.TheVariants.{Done}
 use Rattle.xm_order.proofs.walk.Walk.first_undone.Given as goal

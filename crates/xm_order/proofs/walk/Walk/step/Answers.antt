@@ -1,11 +1,11 @@
 use Rattle.std.proofs.Common.{◌≡◌, Some, sym, ◌∙◌, ap, subst}
 use Rattle.std.specs.Prelude.{List}
-use Rattle.xm_model.specs.Listing.{Listing}
+use Rattle.xm_model.specs.ListView.{ListView}
 use Rattle.xm_order.proofs.Walking.{Stepped, enter_step, finish_step, in_progress, is_path, last_below, last_needs, needs_in_progress, unseen_from}
 use Rattle.xm_order.specs.Dependence.{Depends}
-use Rattle.xm_order.specs.Listed.{ListsAll}
+use Rattle.xm_order.specs.Inner.Listed.{ListsAll}
 use Rattle.xm_order.specs.Loop.{IsLoop}
-use Rattle.xm_order.specs.Path.{IsPath, LastNeeds}
+use Rattle.xm_order.specs.Inner.Path.{IsPath, LastNeeds}
 use Rattle.xm_order.specs.declared.signal.Signal.{Signal}
 use Rattle.xm_order.specs.declared.walk.Progress.TheVariants.{Unseen}
 use Rattle.xm_order.proofs.walk.Walk.step.Goals as goal
@@ -36,7 +36,7 @@ returns-in-OnPath-clause-looped c found e =
     c.in_ok-found-in-OnPath.ensures c.args.net.now (subst (λ (xs : List Signal). IsPath c.args.net.now xs) (sym same) (is_path _ _ _ _ c.requires.walk))
     (subst (λ (xs : List Signal). LastNeeds c.args.net.now xs c.in-Some.next) (sym same) depends) in
     let named : c.in_ok-found-in-OnPath.found ≡ found = cc in
-    subst (λ (xs : Listing Signal). IsLoop c.args.net.now xs.items) named the_loop
+    subst (λ (xs : ListView Signal). IsLoop c.args.net.now xs.items) named the_loop
 
 pub returns : goal.returns
 returns c =

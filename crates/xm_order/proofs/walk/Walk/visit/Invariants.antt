@@ -1,4 +1,4 @@
-use Rattle.xm_order.specs.Walk.{Advances, IsWalk, all_left}
+use Rattle.xm_order.specs.Inner.Walk.{Advances, IsWalk, all_left}
 use Rattle.xm_order.proofs.walk.Walk.visit.Given as goal
 
 abbrev pub invariant-loop-alloc : goal.invariant-loop-alloc

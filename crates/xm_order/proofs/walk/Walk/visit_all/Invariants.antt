@@ -1,6 +1,6 @@
 use Rattle.std.proofs.Common.{◌≡◌, ◌<◌, []}
 use Rattle.xm_order.specs.Dependence.{channel_of}
-use Rattle.xm_order.specs.Walk.{HasProgress, IsWalk}
+use Rattle.xm_order.specs.Inner.Walk.{HasProgress, IsWalk}
 use Rattle.xm_order.specs.declared.signal.Signal.{Signal}
 use Rattle.xm_order.specs.declared.walk.Progress.TheVariants.{Done}
 use Rattle.xm_order.proofs.walk.Walk.visit_all.Given as goal

@@ -1,10 +1,10 @@
 use Rattle.std.proofs.Common.{◌≡◌, Ok, length, ap, ◌∙◌, rules, sym}
 use Rattle.std.proofs.lemmas.List.{length-map}
 use Rattle.xm_model.specs.Steps.{each_from}
-use Rattle.xm_tape.specs.Views.{components_of}
+use Rattle.xm_tape.specs.Inner.Views.{components_of}
 use Rattle.xm_json.specs.Lent.{lent_texts}
 use Rattle.xm_tape.specs.Gives.{Fails}
-use Rattle.xm_tape.specs.Flat.{added, row_of, rows_at}
+use Rattle.xm_tape.specs.Inner.Flat.{added, row_of, rows_at}
 use Rattle.xm_tape.specs.Marks.{oracles_of}
 use Rattle.xm_tape.specs.Reading.{repeating, taped_in}
 use Rattle.xm_tape.proofs.Fitting.{fits_taped}

@@ -1,0 +1,28 @@
+-- What a command prints for the bytes of a document.
+use Rattle.std.specs.Prelude.{◌≡◌, ℕ, List, Ok}
+use Rattle.xm_colours.specs.Allowing.{AllowsAll}
+use Rattle.xm_colours.specs.Family.{colours_at}
+use Rattle.xm_commands.specs.declared.command.Command.{Command}
+use Rattle.xm_commands.specs.declared.command.Command.TheVariants as command
+use Rattle.xm_design.specs.Designed.{Designed, IsDesigned}
+use Rattle.xm_netlist.specs.Doc.{Doc}
+use Rattle.xm_netlist.specs.Reading.{document_in}
+use Rattle.xm_report.specs.Check.{check_text}
+use Rattle.xm_tape.specs.Reading.{tape_in}
+use Rattle.xm_tape.specs.Taped.{Taped}
+use Rattle.xm_trace.specs.Text.{IsTextOfRun}
+
+-- a design of the document's net, whose list of allowed colours refuses nothing
+pub record IsDesignOf (doc : Doc) (design : Designed) : Type 0 where
+  pub net : design.net ≡ doc.net
+  pub designed : IsDesigned design
+  pub allowed : AllowsAll (colours_at design.colours) doc.allow
+
+-- The output of a command for the bytes of a document: of `check` the sizes and colours of its design, and of `run` the
+-- text of the run of its tape.
+pub data IsOutput (bytes : List ℕ) : Command → List ℕ → Type 0 where
+  of_check : (doc : Doc) (design : Designed) → document_in bytes ≡ Ok doc → IsDesignOf doc design
+      → IsOutput bytes command.Check (check_text doc.names design)
+  of_run : (doc : Doc) (design : Designed) (tape : Taped) (text : List ℕ) → document_in bytes ≡ Ok doc
+      → IsDesignOf doc design → tape_in doc.net doc.tape ≡ Ok tape → IsTextOfRun doc.net doc.names tape text
+      → IsOutput bytes command.Run text

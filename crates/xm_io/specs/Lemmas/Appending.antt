@@ -1,0 +1,10 @@
+-- Lemmas: one write after another.
+use Rattle.std.proofs.Common.{List, ◌++◌, ℕ, Option, Some, None, ap, ◌∙◌, append_assoc}
+use Rattle.std.specs.Io.KnownBytes.{Appends}
+
+pub Appends-then : (a b c : Option (List ℕ)) (x y : List ℕ) → Appends a b x → Appends b c y
+    → Appends a c (x ++ y)
+Appends-then None b c x y p q = tt
+Appends-then (Some a) None c x y p q = absurd p
+Appends-then (Some a) (Some b) None x y p q = absurd q
+Appends-then (Some a) (Some b) (Some c) x y p q = q ∙ ap (λ (r : List ℕ). r ++ y) p ∙ append_assoc a x y
