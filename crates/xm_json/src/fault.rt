@@ -13,14 +13,6 @@ pub enum PathFault {
     OutOfMemory,
 }
 
-impl From<AllocError> for PathFault {
-    ghost from_gives = { λ _ fault. fault ≡ faults.OutOfMemory };
-
-    fn from(_: AllocError) -> PathFault {
-        PathFault::OutOfMemory
-    }
-}
-
 impl<T: Drop> From<AllocFailed<T>> for PathFault {
     ghost from_gives = { λ _ fault. fault ≡ faults.OutOfMemory };
 
@@ -29,6 +21,16 @@ impl<T: Drop> From<AllocFailed<T>> for PathFault {
     }
 }
 
+/// Want of memory says nothing else.
+impl From<AllocError> for PathFault {
+    ghost from_gives = { λ _ fault. fault ≡ faults.OutOfMemory };
+
+    fn from(_: AllocError) -> PathFault {
+        PathFault::OutOfMemory
+    }
+}
+
+/// Nor does it where it comes from a list or a text.
 impl From<OutOfMemory> for PathFault {
     ghost from_gives = { λ _ fault. fault ≡ faults.OutOfMemory };
 

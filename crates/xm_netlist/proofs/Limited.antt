@@ -185,13 +185,7 @@ fits channels colours path (merge a b out) known_all offers room packets = tt
 
 same_capacity : (channels colours : List Name) (form : NamedKind) → capacity_of (component_in channels colours form) ≡ form_capacity form
 same_capacity channels colours (source out ds mode) = refl
-same_capacity channels colours (sink input mode) = refl
-same_capacity channels colours (queue input out capacity initial) = refl
-same_capacity channels colours (function input out table) = refl
-same_capacity channels colours (fork input a b table_a table_b) = refl
-same_capacity channels colours (join a b out pass) = refl
-same_capacity channels colours (switch input a b to_a) = refl
-same_capacity channels colours (merge a b out) = refl
+same_capacity channels colours _ = refl
 
 same_capacities : (channels colours : List Name) (primitives : List NamedPrimitive) → sum_by capacity_of (map (primitive_numbered channels colours) primitives) ≡ sum_by capacity_in primitives
 same_capacities channels colours [] = refl

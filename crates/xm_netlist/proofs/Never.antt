@@ -107,14 +107,12 @@ know_form colours path (source out ds mode) =
     all_hold (check_offered colours (member_of path (codes "colours")) ds) (λ i name.
     bind (check_known colours (place_of (member_of path (codes "colours")) i) name) _ (knows colours (place_of (member_of path (codes "colours")) i) name)
     (λ _. checked (not (is_among (take i ds) name)) (same_name (place_of (member_of path (codes "colours")) i)) (λ e. cc))) 0 ds
-know_form colours path (sink input mode) = ok tt
 know_form colours path (queue input out capacity initial) = know_all colours (member_of path (codes "initial")) initial
 know_form colours path (function input out table) = know_table colours (member_of path (codes "map")) table
 know_form colours path (fork input a b table_a table_b) =
     bind (check_table colours (member_of path (codes "map_a")) table_a) _ (know_table colours (member_of path (codes "map_a")) table_a) (λ _. know_table colours (member_of path (codes "map_b")) table_b)
-know_form colours path (join a b out pass) = ok tt
 know_form colours path (switch input a b to_a) = know_all colours (member_of path (codes "to_a")) to_a
-know_form colours path (merge a b out) = ok tt
+know_form colours path _ = ok tt
 
 colours : (draft : NamedNet) → Spares (check_colours draft)
 unfolding check_colours
@@ -127,33 +125,15 @@ sizes it low high count = checked (nat_le low count && nat_le count high) (limit
 
 offers : (form : NamedKind) → Spares (check_offers form)
 offers (source out ds mode) = sizes which.SourceColours 1 most_source_colours (length ds)
-offers (sink input mode) = ok tt
-offers (queue input out capacity initial) = ok tt
-offers (function input out table) = ok tt
-offers (fork input a b table_a table_b) = ok tt
-offers (join a b out pass) = ok tt
-offers (switch input a b to_a) = ok tt
-offers (merge a b out) = ok tt
+offers _ = ok tt
 
 rooms : (form : NamedKind) → Spares (check_room form)
-rooms (source out ds mode) = ok tt
-rooms (sink input mode) = ok tt
 rooms (queue input out capacity initial) = sizes which.Capacity 1 most_capacity capacity
-rooms (function input out table) = ok tt
-rooms (fork input a b table_a table_b) = ok tt
-rooms (join a b out pass) = ok tt
-rooms (switch input a b to_a) = ok tt
-rooms (merge a b out) = ok tt
+rooms _ = ok tt
 
 packets : (form : NamedKind) → Spares (check_packets form)
-packets (source out ds mode) = ok tt
-packets (sink input mode) = ok tt
 packets (queue input out capacity initial) = sizes which.Initial 0 capacity (length initial)
-packets (function input out table) = ok tt
-packets (fork input a b table_a table_b) = ok tt
-packets (join a b out pass) = ok tt
-packets (switch input a b to_a) = ok tt
-packets (merge a b out) = ok tt
+packets _ = ok tt
 
 limits : (draft : NamedNet) → Spares (check_sizes draft)
 unfolding check_sizes

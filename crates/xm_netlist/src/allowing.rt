@@ -7,8 +7,7 @@ ghost use Rattle.xm_shape.specs.Views.{allow_entry_of, names_of};
 ghost use Rattle.xm_netlist.specs.Numbered as spec;
 ghost use Rattle.xm_netlist.specs.Inner.Placed.{AreFew, numbered_allow, slot_of, plain_slots_of, slots_with};
 
-use crate::numbering::{Numbers, marks_of, number, set_at};
-use indexmap::IndexSet;
+use crate::numbering::{NameSet, Numbers, marks_of, number, set_at};
 use std::alloc::Global;
 use xm_model::{Allow, List, OutOfMemory};
 use xm_shape::AllowEntry;
@@ -28,11 +27,7 @@ fn marked_places(alloc: Global, marks: &[bool]) -> Result<List<u8>, OutOfMemory>
 }
 
 /// The numbers of the colours, in colour order.
-fn listed_colours(
-    alloc: Global,
-    known: &IndexSet<String>,
-    names: &[String],
-) -> Result<List<u8>, OutOfMemory>
+fn listed_colours(alloc: Global, known: &NameSet, names: &[String]) -> Result<List<u8>, OutOfMemory>
     requires { length known.now.keys ≤ most_colours }
     ensures { IfOk result (λ l. l.items ≡ spec.listed_in (names_of known.now.keys) (names_of names.now)) }
 {

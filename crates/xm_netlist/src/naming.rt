@@ -14,12 +14,15 @@ ghost use Rattle.xm_netlist.specs.Inner.Placed.{NumbersOf};
 ghost use Rattle.xm_netlist.specs.Inner.CheckSteps.{check_colour_after, check_primitive_after};
 ghost use Rattle.xm_netlist.specs.Checks as spec;
 
-use crate::numbering::Numbers;
+use crate::numbering::{NameSet, Numbers};
 use indexmap::IndexSet;
 use std::alloc::Global;
 use xm_json::{member_text, place_path, place_text};
 use xm_model::OutOfMemory;
 use xm_shape::{DocFault, NamedKind, NamedNet, NamedPrimitive, Port, channel_set, ports_of};
+
+/// What a test says: nothing, or the fault.
+type Check = Result<(), DocFault>;
 
 const LONGEST_NAME: usize = 32;
 
@@ -60,11 +63,7 @@ fn is_colour_name(text: &str) -> bool
 }
 
 /// Whether none of the names before is the same. Such a name is put behind them.
-pub(crate) fn is_new(
-    alloc: Global,
-    before: &mut IndexSet<String>,
-    name: &str,
-) -> Result<bool, OutOfMemory>
+pub(crate) fn is_new(alloc: Global, before: &mut NameSet, name: &str) -> Result<bool, OutOfMemory>
     ensures told { IfOk result (λ new. new ≡ not (is_among (names_of before.old.keys) name.now)) }
     ensures kept { IfOk result (λ new. new ≡ true → names_of before.new.keys
         ≡ names_of before.old.keys ++ name.now ∷ []) }
@@ -73,12 +72,7 @@ pub(crate) fn is_new(
     Ok(new)
 }
 
-fn check_colour_name(
-    alloc: Global,
-    before: &mut IndexSet<String>,
-    place: usize,
-    name: &str,
-) -> Result<(), DocFault>
+fn check_colour_name(alloc: Global, before: &mut NameSet, place: usize, name: &str) -> Check
     ensures named { Gives (λ _. tt) result (check_colour_after (names_of before.old.keys) place name.now) }
     ensures kept { OnOk result (names_of before.new.keys ≡ names_of before.old.keys ++ name.now ∷ []) }
 {
@@ -92,10 +86,7 @@ fn check_colour_name(
 }
 
 /// The names of the colours, which have their form and differ. Time grows with their lengths.
-pub(crate) fn check_colour_names(
-    alloc: Global,
-    colours: &[String],
-) -> Result<IndexSet<String>, DocFault>
+pub(crate) fn check_colour_names(alloc: Global, colours: &[String]) -> Result<NameSet, DocFault>
     ensures named { Gives (λ _. tt) result
         (each_holds (spec.check_colour_name (names_of colours.now)) (names_of colours.now)) }
     ensures set { IfOk result (λ set. names_of set.keys ≡ names_of colours.now) }
@@ -107,7 +98,7 @@ pub(crate) fn check_colour_names(
     Ok(before)
 }
 
-fn check_port_name(alloc: Global, path: &str, port: Port) -> Result<(), DocFault>
+fn check_port_name(alloc: Global, path: &str, port: Port) -> Check
     ensures { Gives (λ _. tt) result (spec.check_port_names path.now (port_of port.entry ∷ [])) }
 {
     if !is_name(port.channel) {
@@ -116,7 +107,7 @@ fn check_port_name(alloc: Global, path: &str, port: Port) -> Result<(), DocFault
     Ok(())
 }
 
-fn check_port_name_if(alloc: Global, path: &str, port: Option<Port>) -> Result<(), DocFault>
+fn check_port_name_if(alloc: Global, path: &str, port: Option<Port>) -> Check
     ensures { Gives (λ _. tt) result (spec.check_port_names path.now (option_to_list (option_map port_of port.entry))) }
 {
     match port {
@@ -125,7 +116,7 @@ fn check_port_name_if(alloc: Global, path: &str, port: Option<Port>) -> Result<(
     }
 }
 
-fn check_port_names(alloc: Global, path: &str, form: &NamedKind) -> Result<(), DocFault>
+fn check_port_names(alloc: Global, path: &str, form: &NamedKind) -> Check
     ensures { Gives (λ _. tt) result (spec.check_port_names path.now (plain.ports_of (named_kind_of form.now))) }
 {
     let ports = ports_of(form);
@@ -136,10 +127,10 @@ fn check_port_names(alloc: Global, path: &str, form: &NamedKind) -> Result<(), D
 
 fn check_primitive_name(
     alloc: Global,
-    before: &mut IndexSet<String>,
+    before: &mut NameSet,
     place: usize,
     primitive: &NamedPrimitive,
-) -> Result<(), DocFault>
+) -> Check
     ensures named { Gives (λ _. tt) result
         (check_primitive_after (names_of before.old.keys) place (named_primitive_of primitive.now)) }
     ensures kept { OnOk result (names_of before.new.keys
@@ -160,7 +151,7 @@ fn check_primitive_name(
 pub(crate) fn check_primitive_names(
     alloc: Global,
     primitives: &[NamedPrimitive],
-) -> Result<IndexSet<String>, DocFault>
+) -> Result<NameSet, DocFault>
     ensures named { Gives (λ _. tt) result
         (each_holds (spec.check_primitive_name (map named_primitive_of primitives.now))
         (map named_primitive_of primitives.now)) }

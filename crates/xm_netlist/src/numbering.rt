@@ -16,12 +16,18 @@ use std::alloc::Global;
 use xm_model::{List, Names, OutOfMemory, Prim, SourceMode, Text};
 use xm_shape::{MapEntry, NamedKind, NamedPrimitive};
 
+/// Names in an order, each once.
+pub(crate) type NameSet = IndexSet<String>;
+
+/// A primitive, or no memory was found.
+type Build = Result<Prim, OutOfMemory>;
+
 /// The names that a draft numbers: the number of a name is its place.
 #[derive(Drop)]
 pub(crate) struct Numbers {
-    pub prims: IndexSet<String>,
-    pub channels: IndexSet<String>,
-    pub colours: IndexSet<String>,
+    pub prims: NameSet,
+    pub channels: NameSet,
+    pub colours: NameSet,
 }
 
 impl Numbers {
@@ -39,14 +45,14 @@ impl Numbers {
 }
 
 /// The number of a name among the names, and their count where it is none of them.
-pub(crate) fn number(names: &IndexSet<String>, name: &str) -> usize
+pub(crate) fn number(names: &NameSet, name: &str) -> usize
     ensures number { result ≡ number_in (names_of names.now.keys) name.now }
     ensures within { result ≤ length names.now.keys }
 {
     names.get_index_of(name).unwrap_or(names.len())
 }
 
-fn colour(names: &IndexSet<String>, name: &str) -> u8
+fn colour(names: &NameSet, name: &str) -> u8
     requires { length names.now.keys ≤ most_colours }
     ensures { result ≡ number_in (names_of names.now.keys) name.now }
 {
@@ -54,11 +60,7 @@ fn colour(names: &IndexSet<String>, name: &str) -> u8
 }
 
 /// The numbers of the colours, in their order.
-fn colour_numbers(
-    alloc: Global,
-    known: &IndexSet<String>,
-    names: &[String],
-) -> Result<List<u8>, OutOfMemory>
+fn colour_numbers(alloc: Global, known: &NameSet, names: &[String]) -> Result<List<u8>, OutOfMemory>
     requires { length known.now.keys ≤ most_colours }
     ensures { IfOk result (λ l. l.items ≡ map (number_in (names_of known.now.keys)) (names_of names.now)) }
 {
@@ -89,7 +91,7 @@ pub(crate) fn set_at<T: Drop>(items: &mut [T], place: usize, value: T)
     }
 }
 
-fn set_images(images: &mut [u8], known: &IndexSet<String>, table: &[MapEntry])
+fn set_images(images: &mut [u8], known: &NameSet, table: &[MapEntry])
     requires { length known.now.keys ≤ most_colours }
     ensures { images.new ≡ with_images (names_of known.now.keys) (table_of table.now) images.old }
 {
@@ -100,11 +102,7 @@ fn set_images(images: &mut [u8], known: &IndexSet<String>, table: &[MapEntry])
 }
 
 /// For each colour the one that it becomes: itself, but where the map names it.
-fn images_of(
-    alloc: Global,
-    known: &IndexSet<String>,
-    table: &[MapEntry],
-) -> Result<List<u8>, OutOfMemory>
+fn images_of(alloc: Global, known: &NameSet, table: &[MapEntry]) -> Result<List<u8>, OutOfMemory>
     requires { length known.now.keys ≤ most_colours }
     ensures { IfOk result (λ l. l.items ≡ spec.images_of (names_of known.now.keys) (table_of table.now)) }
 {
@@ -113,7 +111,7 @@ fn images_of(
     Ok(images)
 }
 
-fn set_marks(marks: &mut [bool], known: &IndexSet<String>, names: &[String])
+fn set_marks(marks: &mut [bool], known: &NameSet, names: &[String])
     ensures { marks.new ≡ with_marks (names_of known.now.keys) (names_of names.now) marks.old }
 {
     for name in names {
@@ -124,7 +122,7 @@ fn set_marks(marks: &mut [bool], known: &IndexSet<String>, names: &[String])
 /// For each colour whether it is among the names.
 pub(crate) fn marks_of(
     alloc: Global,
-    known: &IndexSet<String>,
+    known: &NameSet,
     names: &[String],
 ) -> Result<List<bool>, OutOfMemory>
     requires { length known.now.keys ≤ most_colours }
@@ -141,7 +139,7 @@ fn source(
     out: &str,
     colours: &[String],
     mode: SourceMode,
-) -> Result<Prim, OutOfMemory>
+) -> Build
     requires { AreFew numbers.now }
     ensures { IfOk result (λ prim. component_of prim
         ≡ numbered_component numbers.now (plain.source out.now (names_of colours.now) mode)) }
@@ -161,7 +159,7 @@ fn queue(
     out: &str,
     capacity: u32,
     packets: &[String],
-) -> Result<Prim, OutOfMemory>
+) -> Build
     requires { AreFew numbers.now }
     ensures { IfOk result (λ prim. component_of prim
         ≡ numbered_component numbers.now (plain.queue input.now out.now capacity (names_of packets.now))) }
@@ -175,13 +173,7 @@ fn queue(
     })
 }
 
-fn function(
-    alloc: Global,
-    numbers: &Numbers,
-    input: &str,
-    out: &str,
-    table: &[MapEntry],
-) -> Result<Prim, OutOfMemory>
+fn function(alloc: Global, numbers: &Numbers, input: &str, out: &str, table: &[MapEntry]) -> Build
     requires { AreFew numbers.now }
     ensures { IfOk result (λ prim. component_of prim
         ≡ numbered_component numbers.now (plain.function input.now out.now (table_of table.now))) }
@@ -202,7 +194,7 @@ fn fork(
     b: &str,
     table_a: &[MapEntry],
     table_b: &[MapEntry],
-) -> Result<Prim, OutOfMemory>
+) -> Build
     requires { AreFew numbers.now }
     ensures { IfOk result (λ prim. component_of prim
         ≡ numbered_component numbers.now
@@ -219,14 +211,7 @@ fn fork(
     })
 }
 
-fn switch(
-    alloc: Global,
-    numbers: &Numbers,
-    input: &str,
-    a: &str,
-    b: &str,
-    to_a: &[String],
-) -> Result<Prim, OutOfMemory>
+fn switch(alloc: Global, numbers: &Numbers, input: &str, a: &str, b: &str, to_a: &[String]) -> Build
     requires { AreFew numbers.now }
     ensures { IfOk result (λ prim. component_of prim
         ≡ numbered_component numbers.now (plain.switch input.now a.now b.now (names_of to_a.now))) }
@@ -241,7 +226,7 @@ fn switch(
 }
 
 /// The primitive of a form.
-fn component(alloc: Global, numbers: &Numbers, form: &NamedKind) -> Result<Prim, OutOfMemory>
+fn component(alloc: Global, numbers: &Numbers, form: &NamedKind) -> Build
     requires few { AreFew numbers.now }
     requires small { form_capacity (named_kind_of form.now) ≤ most_capacity }
     ensures { IfOk result (λ prim. component_of prim ≡ numbered_component numbers.now (named_kind_of form.now)) }
@@ -299,7 +284,7 @@ pub(crate) fn components(
     Ok(prims)
 }
 
-fn texts_of_names(alloc: Global, names: &IndexSet<String>) -> Result<List<Text>, OutOfMemory>
+fn texts_of_names(alloc: Global, names: &NameSet) -> Result<List<Text>, OutOfMemory>
     ensures { IfOk result (λ texts. texts_of texts.items ≡ names_of names.now.keys) }
 {
     let mut texts = List::new(alloc);
@@ -313,12 +298,9 @@ fn texts_of_names(alloc: Global, names: &IndexSet<String>) -> Result<List<Text>,
 pub(crate) fn names_of(alloc: Global, numbers: &Numbers) -> Result<Names, OutOfMemory>
     ensures { IfOk result (λ names. naming_of names ≡ naming_from numbers.now) }
 {
-    let prims = texts_of_names(alloc, &numbers.prims)?;
-    let channels = texts_of_names(alloc, &numbers.channels)?;
-    let colours = texts_of_names(alloc, &numbers.colours)?;
     Ok(Names {
-        prims,
-        channels,
-        colours,
+        prims: texts_of_names(alloc, &numbers.prims)?,
+        channels: texts_of_names(alloc, &numbers.channels)?,
+        colours: texts_of_names(alloc, &numbers.colours)?,
     })
 }

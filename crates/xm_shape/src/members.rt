@@ -54,8 +54,7 @@ pub fn names_member(
     key: &str,
     object: &Value,
 ) -> Result<Vec<String>, PathFault>
-    ensures { Gives (λ names. names_of names.items) result
-        (members.texts_member path.now key.now (view object.now)) }
+    ensures { Gives (λ names. names_of names.items) result (members.texts_member path.now key.now (view object.now)) }
 {
     let texts = texts_member(alloc, path, key, object)?;
     Ok(names_from(alloc, &texts)?)

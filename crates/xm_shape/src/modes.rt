@@ -30,12 +30,10 @@ fn source_mode_of(version: u64, text: &str) -> Option<SourceMode>
 fn sink_mode_of(text: &str) -> Option<SinkMode>
     ensures { result ≡ spec.sink_mode_of text.now }
 {
-    if text == "keep" {
-        Some(SinkMode::Keep)
-    } else if text == "free" {
-        Some(SinkMode::Free)
-    } else {
-        None
+    match text {
+        "keep" => Some(SinkMode::Keep),
+        "free" => Some(SinkMode::Free),
+        _ => None,
     }
 }
 

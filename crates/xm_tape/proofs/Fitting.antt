@@ -61,12 +61,7 @@ ready_fits mark (Offer chosen) is =
 marked_fits : (m : Component) (mark : ℕ) (choice : Choice) → choice_marked m mark ≡ Some choice → ChoiceFits m choice
 marked_fits (Source out colours mode) mark choice is = offer_fits colours mark choice is
 marked_fits (Sink input mode) mark choice is = ready_fits mark choice is
-marked_fits (Queue input out capacity initial) mark choice is = tt
-marked_fits (Function input out table) mark choice is = tt
-marked_fits (Fork input a b ta tb) mark choice is = tt
-marked_fits (Join a b out pass) mark choice is = tt
-marked_fits (Switch input a b to_a) mark choice is = tt
-marked_fits (Merge a b out) mark choice is = tt
+marked_fits _ mark choice is = tt
 
 draw_fits : (colours : List ℕ) (r : ℕ) → OffersFrom colours (offer_drawn colours r)
 draw_fits colours zero = tt
@@ -75,22 +70,12 @@ draw_fits colours (suc place) = place_fits colours place
 drawn_fits : (m : Component) (x : ℕ) → ChoiceFits m (choice_drawn m x)
 drawn_fits (Source out colours mode) x = draw_fits colours (draw x (suc (length colours)))
 drawn_fits (Sink input mode) x = tt
-drawn_fits (Queue input out capacity initial) x = tt
-drawn_fits (Function input out table) x = tt
-drawn_fits (Fork input a b ta tb) x = tt
-drawn_fits (Join a b out pass) x = tt
-drawn_fits (Switch input a b to_a) x = tt
-drawn_fits (Merge a b out) x = tt
+drawn_fits _ x = tt
 
 other_fits : (m : Component) (choice : Choice) → is_oracle m ≡ false → ChoiceFits m choice
 other_fits (Source out colours mode) choice other = absurd cc
 other_fits (Sink input mode) choice other = absurd cc
-other_fits (Queue input out capacity initial) choice other = tt
-other_fits (Function input out table) choice other = tt
-other_fits (Fork input a b ta tb) choice other = tt
-other_fits (Join a b out pass) choice other = tt
-other_fits (Switch input a b to_a) choice other = tt
-other_fits (Merge a b out) choice other = tt
+other_fits _ choice other = tt
 
 -- ---- one row
 

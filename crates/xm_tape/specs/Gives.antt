@@ -19,11 +19,11 @@ fault_of (faults.BadMark row oracle) = Some (bad_mark row oracle)
 abbrev pub Fails : {Y : Type 0} → TapeFault → Result Y Fault → Type 0
 Fails fault step = FailsBy fault_of fault step
 
--- what a function returned, seen by view, is what the step gives
-abbrev pub Gives : {X Y : Type 0} → (X → Y) → Result X TapeFault → Result Y Fault → Type 0
-Gives view result step = GivesBy fault_of view result step
-
 -- a value at a path that has not its form is a fault of the tape's shape
 abbrev pub shape_fault : PathFault → TapeFault
 shape_fault (path_faults.Broken path) = faults.TapeShape path
 shape_fault path_faults.OutOfMemory = faults.OutOfMemory
+
+-- what a function returned, seen by view, is what the step gives
+abbrev pub Gives : {X Y : Type 0} → (X → Y) → Result X TapeFault → Result Y Fault → Type 0
+Gives view result step = GivesBy fault_of view result step

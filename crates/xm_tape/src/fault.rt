@@ -20,21 +20,22 @@ pub enum TapeFault {
     OutOfMemory,
 }
 
-impl From<OutOfMemory> for TapeFault {
-    ghost from_gives = { λ _ fault. fault ≡ faults.OutOfMemory };
-
-    fn from(_: OutOfMemory) -> TapeFault {
-        TapeFault::OutOfMemory
-    }
-}
-
 impl From<PathFault> for TapeFault {
     ghost from_gives = { λ fault now. now ≡ shape_fault fault };
 
     fn from(fault: PathFault) -> TapeFault {
         match fault {
-            PathFault::Broken(path) => TapeFault::TapeShape(path),
             PathFault::OutOfMemory => TapeFault::OutOfMemory,
+            PathFault::Broken(path) => TapeFault::TapeShape(path),
         }
+    }
+}
+
+/// Want of memory says nothing else.
+impl From<OutOfMemory> for TapeFault {
+    ghost from_gives = { λ _ fault. fault ≡ faults.OutOfMemory };
+
+    fn from(_: OutOfMemory) -> TapeFault {
+        TapeFault::OutOfMemory
     }
 }

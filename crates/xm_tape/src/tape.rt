@@ -19,11 +19,11 @@ use xm_model::{Choice, List, OutOfMemory};
 /// is repeated, and takes at most 4 bytes a choice.
 #[derive(Drop)]
 pub struct Tape {
-    choices: List<Choice>,
     width: u32,
     stem: u32,
     cycle: u32,
     times: u32,
+    choices: List<Choice>,
 }
 
 impl Model for Tape {

@@ -51,25 +51,17 @@ root t colours version prims tape proof =
     object (member_if (codes "allow") (object_if (members_from texts_data t)) (member (codes "colours") (texts_data colours) (member (codes "net") (array (items_of prims))
     (member_if (codes "proof") proof (member_if (codes "tape") tape (member (codes "version") (number (unsigned version)) no_members))))))
 
-get_tape : (t : List (Name × List Name)) (colours : List Name) (version : ℕ) (prims : List Data) (tape proof : Option Data) → get (codes "tape") (root t colours version prims tape proof) ≡ tape
-get_tape [] colours version prims None None = refl
-get_tape [] colours version prims None (Some p) = refl
-get_tape [] colours version prims (Some d) None = refl
-get_tape [] colours version prims (Some d) (Some p) = refl
-get_tape (e ∷ t) colours version prims None None = refl
-get_tape (e ∷ t) colours version prims None (Some p) = refl
-get_tape (e ∷ t) colours version prims (Some d) None = refl
-get_tape (e ∷ t) colours version prims (Some d) (Some p) = refl
-
-get_proof : (t : List (Name × List Name)) (colours : List Name) (version : ℕ) (prims : List Data) (tape proof : Option Data) → get (codes "proof") (root t colours version prims tape proof) ≡ proof
-get_proof [] colours version prims None None = refl
-get_proof [] colours version prims None (Some p) = refl
-get_proof [] colours version prims (Some d) None = refl
-get_proof [] colours version prims (Some d) (Some p) = refl
-get_proof (e ∷ t) colours version prims None None = refl
-get_proof (e ∷ t) colours version prims None (Some p) = refl
-get_proof (e ∷ t) colours version prims (Some d) None = refl
-get_proof (e ∷ t) colours version prims (Some d) (Some p) = refl
+-- its tape and its proof
+get_both : (t : List (Name × List Name)) (colours : List Name) (version : ℕ) (prims : List Data) (tape proof : Option Data)
+    → (get (codes "tape") (root t colours version prims tape proof) ≡ tape) × (get (codes "proof") (root t colours version prims tape proof) ≡ proof)
+get_both [] colours version prims None None = (refl, refl)
+get_both [] colours version prims None (Some p) = (refl, refl)
+get_both [] colours version prims (Some d) None = (refl, refl)
+get_both [] colours version prims (Some d) (Some p) = (refl, refl)
+get_both (e ∷ t) colours version prims None None = (refl, refl)
+get_both (e ∷ t) colours version prims None (Some p) = (refl, refl)
+get_both (e ∷ t) colours version prims (Some d) None = (refl, refl)
+get_both (e ∷ t) colours version prims (Some d) (Some p) = (refl, refl)
 
 draft_read : (t : List (Name × List Name)) (colours : List Name) (version : ℕ) (prims : List Data) (tape proof : Option Data) (primitives : List NamedPrimitive) → first_version ≤ version → version ≤ newest_version → each (λ i x. primitive_at version (place_of net i) x) prims ≡ Ok primitives
     → are_channels primitives (map allowing_of t) ≡ true → whole_or_missing tape ≡ true → whole_or_missing proof ≡ true → named_net_in (root t colours version prims tape proof) ≡ Ok (record { colours = colours; primitives = primitives; allow = map allowing_of t })
@@ -177,6 +169,7 @@ module _ (doc : Doc) (valid : IsValid doc) where
   pub document_again : document_of (data_of doc) ≡ Ok doc
   unfolding document_of
   document_again =
-      let tape : get (codes "tape") (data_of doc) ≡ doc.tape = ap (get (codes "tape")) data_is ∙ get_tape table doc.names.colours (version_of doc.net.prims) (prims_data doc.names 0 doc.net.prims) doc.tape doc.proof in
-      let proof : get (codes "proof") (data_of doc) ≡ doc.proof = ap (get (codes "proof")) data_is ∙ get_proof table doc.names.colours (version_of doc.net.prims) (prims_data doc.names 0 doc.net.prims) doc.tape doc.proof in
+      let both = get_both table doc.names.colours (version_of doc.net.prims) (prims_data doc.names 0 doc.net.prims) doc.tape doc.proof in
+      let tape : get (codes "tape") (data_of doc) ≡ doc.tape = ap (get (codes "tape")) data_is ∙ both.0 in
+      let proof : get (codes "proof") (data_of doc) ≡ doc.proof = ap (get (codes "proof")) data_is ∙ both.1 in
       rw (draft_again, tape, proof) numbered_again

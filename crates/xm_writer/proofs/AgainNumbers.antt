@@ -64,13 +64,7 @@ module _ (names : Naming) (channels : are_distinct names.channels ≡ true) (col
 
 uses_of : (names : Naming) (name : Name) (m : Component) → channels_of (primitive_read names name m) ≡ named_by names.channels (channel_uses m)
 uses_of names name (Source out colours mode) = refl
-uses_of names name (Sink input mode) = refl
-uses_of names name (Queue input out capacity initial) = refl
-uses_of names name (Function input out table) = refl
-uses_of names name (Fork input a b ta tb) = refl
-uses_of names name (Join a b out pass) = refl
-uses_of names name (Switch input a b to_a) = refl
-uses_of names name (Merge a b out) = refl
+uses_of names name _ = refl
 
 uses_again : (names : Naming) (p : ℕ) (ms : List Component) → flat_map channels_of (primitives_read names p ms) ≡ named_by names.channels (flat_map channel_uses ms)
 uses_again names p [] = refl
@@ -105,13 +99,7 @@ each_part names P Q one p (m ∷ ms) all = All-cons P (primitive_read names (nam
 
 capacity_again : (names : Naming) (name : Name) (m : Component) → capacity_in (primitive_read names name m) ≡ capacity_of m
 capacity_again names name (Source out colours mode) = refl
-capacity_again names name (Sink input mode) = refl
-capacity_again names name (Queue input out capacity initial) = refl
-capacity_again names name (Function input out table) = refl
-capacity_again names name (Fork input a b ta tb) = refl
-capacity_again names name (Join a b out pass) = refl
-capacity_again names name (Switch input a b to_a) = refl
-capacity_again names name (Merge a b out) = refl
+capacity_again names name _ = refl
 
 pub capacities_again : (names : Naming) (p : ℕ) (ms : List Component) → sum_by capacity_in (primitives_read names p ms) ≡ sum_by capacity_of ms
 capacities_again names p [] = refl

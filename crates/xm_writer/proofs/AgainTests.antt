@@ -124,36 +124,18 @@ module _ (names : Naming) (ms : List Component) (all : All (Fits names) ms) wher
       let long = length-map ds (name_at names.colours) in
       let low = f.fits.0 in let high = f.fits.1 in
       rw (long, le-leb 1 (length ds) (omega arith), le-leb (length ds) most_source_colours (omega arith)) refl
-  offers_fit name (Sink input mode) f = refl
-  offers_fit name (Queue input out capacity initial) f = refl
-  offers_fit name (Function input out table) f = refl
-  offers_fit name (Fork input a b ta tb) f = refl
-  offers_fit name (Join a b out pass) f = refl
-  offers_fit name (Switch input a b to_a) f = refl
-  offers_fit name (Merge a b out) f = refl
+  offers_fit name _ f = refl
 
   room_fits : (name : Name) (m : Component) → Fits names m → check_room (primitive_read names name m).form ≡ Ok tt
-  room_fits name (Source out ds mode) f = refl
-  room_fits name (Sink input mode) f = refl
   room_fits name (Queue input out capacity initial) f = let low = f.fits.0 in let high = f.fits.1 in rw (le-leb 1 capacity (omega arith), le-leb capacity most_capacity (omega arith)) refl
-  room_fits name (Function input out table) f = refl
-  room_fits name (Fork input a b ta tb) f = refl
-  room_fits name (Join a b out pass) f = refl
-  room_fits name (Switch input a b to_a) f = refl
-  room_fits name (Merge a b out) f = refl
+  room_fits name _ f = refl
 
   packets_fit : (name : Name) (m : Component) → Fits names m → check_packets (primitive_read names name m).form ≡ Ok tt
-  packets_fit name (Source out ds mode) f = refl
-  packets_fit name (Sink input mode) f = refl
   packets_fit name (Queue input out capacity initial) f =
       let long = length-map initial (name_at names.colours) in
       let few = f.fits.2 in
       rw (long, le-leb 0 (length initial) (omega arith), le-leb (length initial) capacity few) refl
-  packets_fit name (Function input out table) f = refl
-  packets_fit name (Fork input a b ta tb) f = refl
-  packets_fit name (Join a b out pass) f = refl
-  packets_fit name (Switch input a b to_a) f = refl
-  packets_fit name (Merge a b out) f = refl
+  packets_fit name _ f = refl
 
   each_sized : (test : NamedKind → Result ⊤ Fault) → ((name : Name) (m : Component) → Fits names m → test (primitive_read names name m).form ≡ Ok tt) → each_holds (λ i primitive. test primitive.form) (primitives_read names 0 ms) ≡ Ok tt
   each_sized test one =

@@ -59,29 +59,13 @@ value_ends : (ts : List Token) → ends_word (print_from true ts) ≡ true
 unfolding print_from
 value_ends [] = refl
 value_ends (begin_object ∷ ts) = refl
-value_ends (end_object ∷ ts) = refl
-value_ends (begin_array ∷ ts) = refl
-value_ends (end_array ∷ ts) = refl
-value_ends (key s ∷ ts) = refl
-value_ends (string s ∷ ts) = refl
-value_ends (number s ∷ ts) = refl
-value_ends (boolean b ∷ ts) = refl
-value_ends (null ∷ ts) = refl
-value_ends (bad ∷ ts) = refl
+value_ends (_ ∷ ts) = refl
 
 value_ends_line : (ts : List Token) → ends_word (print_from true ts ++ line) ≡ true
 unfolding print_from
 value_ends_line [] = refl
 value_ends_line (begin_object ∷ ts) = refl
-value_ends_line (end_object ∷ ts) = refl
-value_ends_line (begin_array ∷ ts) = refl
-value_ends_line (end_array ∷ ts) = refl
-value_ends_line (key s ∷ ts) = refl
-value_ends_line (string s ∷ ts) = refl
-value_ends_line (number s ∷ ts) = refl
-value_ends_line (boolean b ∷ ts) = refl
-value_ends_line (null ∷ ts) = refl
-value_ends_line (bad ∷ ts) = refl
+value_ends_line (_ ∷ ts) = refl
 
 -- one token of the text, whatever follows
 lex-piece : (b : Bool) (t : Token) (r : List ℕ) → IsPrintable t → (ends t ≡ true → ends_word r ≡ true)
