@@ -3,11 +3,11 @@ use Rattle.std.proofs.Common.{◌≡◌, ◌≢◌, ℕ, Bool, true, false, not,
 use Rattle.std.proofs.lemmas.Bool.{cases_eq, ne_eqb, cond-true, cond-false, cases_Bool, not-true}
 use Rattle.xm_colours.specs.Family.{Closed, IsClosed, IsLeast, Within}
 use Rattle.xm_colours.specs.Cuts.{CutsHold, SwitchesCut}
-use Rattle.xm_model.specs.Counted.{IsCounted, counted, apart, at_first, driven_below, one_place, times_within}
+use Rattle.xm_model.specs.Lemmas.PortCounts.{IsCounted, counted, apart, at_first, output_below, one_place, times_within}
 use Rattle.xm_model.specs.Component.{Component, Fork, Function, Join, Merge, Queue, Sink, Source, Switch}
 use Rattle.xm_model.specs.Net.{HasPrim, Network}
-use Rattle.xm_model.specs.Ports.{Drives, fork_drives_a, fork_drives_b, function_drives, join_drives, merge_drives, queue_drives, source_drives, switch_drives_a, switch_drives_b}
-use Rattle.xm_model.specs.Run.{IsIn}
+use Rattle.xm_model.specs.Ports.{HasOutput, fork_output_a, fork_output_b, function_output, join_output, merge_output, queue_output, source_output, switch_output_a, switch_output_b}
+use Rattle.xm_model.specs.Membership.{IsIn}
 use Rattle.xm_model.specs.Signals.{at_side, takes_a}
 
 -- the colours of the list that pass the test with this answer
@@ -30,26 +30,26 @@ keep_within test d (x ∷ xs) inside = elim (cases_Bool (test x)) [
 ]
 
 -- a primitive stays closed where its inputs lose colours and its outputs keep theirs
-closed_still : (p : Component) (family colours : ℕ → List ℕ) → ((c : ℕ) → Within (family c) (colours c)) → ((c : ℕ) → Drives p c → family c ≡ colours c) → Closed colours p → Closed family p
-closed_still (Source out cs mode) family colours less same closed = λ d inside. subst (λ (xs : List ℕ). IsIn xs d) (sym (same out source_drives)) (closed d inside)
+closed_still : (p : Component) (family colours : ℕ → List ℕ) → ((c : ℕ) → Within (family c) (colours c)) → ((c : ℕ) → HasOutput p c → family c ≡ colours c) → Closed colours p → Closed family p
+closed_still (Source out cs mode) family colours less same closed = λ d inside. subst (λ (xs : List ℕ). IsIn xs d) (sym (same out source_output)) (closed d inside)
 closed_still (Sink input mode) family colours less same closed = tt
 closed_still (Queue input out capacity initial) family colours less same closed = (
-  λ d inside. subst (λ (xs : List ℕ). IsIn xs d) (sym (same out queue_drives)) (closed.0 d (less input d inside)),
-  λ d inside. subst (λ (xs : List ℕ). IsIn xs d) (sym (same out queue_drives)) (closed.1 d inside),
+  λ d inside. subst (λ (xs : List ℕ). IsIn xs d) (sym (same out queue_output)) (closed.0 d (less input d inside)),
+  λ d inside. subst (λ (xs : List ℕ). IsIn xs d) (sym (same out queue_output)) (closed.1 d inside),
 )
-closed_still (Function input out table) family colours less same closed = λ d inside. subst (λ (xs : List ℕ). IsIn xs (slice_index table d)) (sym (same out function_drives)) (closed d (less input d inside))
+closed_still (Function input out table) family colours less same closed = λ d inside. subst (λ (xs : List ℕ). IsIn xs (slice_index table d)) (sym (same out function_output)) (closed d (less input d inside))
 closed_still (Fork input a b ta tb) family colours less same closed = (
-  λ d inside. subst (λ (xs : List ℕ). IsIn xs (slice_index ta d)) (sym (same a fork_drives_a)) (closed.0 d (less input d inside)),
-  λ d inside. subst (λ (xs : List ℕ). IsIn xs (slice_index tb d)) (sym (same b fork_drives_b)) (closed.1 d (less input d inside)),
+  λ d inside. subst (λ (xs : List ℕ). IsIn xs (slice_index ta d)) (sym (same a fork_output_a)) (closed.0 d (less input d inside)),
+  λ d inside. subst (λ (xs : List ℕ). IsIn xs (slice_index tb d)) (sym (same b fork_output_b)) (closed.1 d (less input d inside)),
 )
-closed_still (Join a b out pass) family colours less same closed = λ d inside. subst (λ (xs : List ℕ). IsIn xs d) (sym (same out join_drives)) (closed d (less (at_side pass a b) d inside))
+closed_still (Join a b out pass) family colours less same closed = λ d inside. subst (λ (xs : List ℕ). IsIn xs d) (sym (same out join_output)) (closed d (less (at_side pass a b) d inside))
 closed_still (Switch input a b to_a) family colours less same closed = (
-  λ d inside goes. subst (λ (xs : List ℕ). IsIn xs d) (sym (same a switch_drives_a)) (closed.0 d (less input d inside) goes),
-  λ d inside goes. subst (λ (xs : List ℕ). IsIn xs d) (sym (same b switch_drives_b)) (closed.1 d (less input d inside) goes),
+  λ d inside goes. subst (λ (xs : List ℕ). IsIn xs d) (sym (same a switch_output_a)) (closed.0 d (less input d inside) goes),
+  λ d inside goes. subst (λ (xs : List ℕ). IsIn xs d) (sym (same b switch_output_b)) (closed.1 d (less input d inside) goes),
 )
 closed_still (Merge a b out) family colours less same closed = (
-  λ d inside. subst (λ (xs : List ℕ). IsIn xs d) (sym (same out merge_drives)) (closed.0 d (less a d inside)),
-  λ d inside. subst (λ (xs : List ℕ). IsIn xs d) (sym (same out merge_drives)) (closed.1 d (less b d inside)),
+  λ d inside. subst (λ (xs : List ℕ). IsIn xs d) (sym (same out merge_output)) (closed.0 d (less a d inside)),
+  λ d inside. subst (λ (xs : List ℕ). IsIn xs d) (sym (same out merge_output)) (closed.1 d (less b d inside)),
 )
 
 module _ (net : Network) (colours : ℕ → List ℕ) (wired : IsCounted net) (closed : IsClosed net colours) (i input a b : ℕ) (to_a : List Bool) (has : HasPrim net i (Switch input a b to_a)) where
@@ -59,7 +59,7 @@ module _ (net : Network) (colours : ℕ → List ℕ) (wired : IsCounted net) (c
   distinct : nat_eq b a ≡ false
   distinct =
       let within = times_within net i _ a has in
-      let once = wired.one_driver a (driven_below net wired i _ a has switch_drives_a) in
+      let once = wired.one_initiator a (output_below net wired i _ a has switch_output_a) in
       apart a b (omega arith)
 
   cut_a : cut a ≡ keep (takes_a to_a) (colours a)
@@ -98,9 +98,9 @@ module _ (net : Network) (colours : ℕ → List ℕ) (wired : IsCounted net) (c
           λ d inside goes. subst (λ (xs : List ℕ). IsIn xs d) (sym cut_a) (in_keep (takes_a to_a) d (colours a) (old.0 d (less input d inside) goes) goes),
           λ d inside goes. subst (λ (xs : List ℕ). IsIn xs d) (sym cut_b) (in_keep (λ x. not (takes_a to_a x)) d (colours b) (old.1 d (less input d inside) goes) (ap not goes)),
         )
-    | inr differs ↦ closed_still p cut colours less (λ c drives. cut_other c
-        (λ is_a. differs (one_place net wired j i p _ a has_p has (subst (Drives p) is_a drives) switch_drives_a))
-        (λ is_b. differs (one_place net wired j i p _ b has_p has (subst (Drives p) is_b drives) switch_drives_b))) (closed j p has_p)
+    | inr differs ↦ closed_still p cut colours less (λ c has_output. cut_other c
+        (λ is_a. differs (one_place net wired j i p _ a has_p has (subst (HasOutput p) is_a has_output) switch_output_a))
+        (λ is_b. differs (one_place net wired j i p _ b has_p has (subst (HasOutput p) is_b has_output) switch_output_b))) (closed j p has_p)
   ]
 
 switches_cut : (net : Network) (colours : ℕ → List ℕ) → IsCounted net → IsClosed net colours → IsLeast net colours → SwitchesCut net colours

@@ -5,8 +5,8 @@ use Rattle.std.specs.Prelude.{IsTrue}
 use Rattle.xm_colours.proofs.Words.{of_count, of_has, of_none, of_place, of_tells}
 use Rattle.xm_colours.specs.Family.{colours_at}
 use Rattle.xm_colours.specs.Pairs.{pairs}
-use Rattle.xm_colours.specs.Words.{holds, set_below, set_of, sets_of}
-use Rattle.xm_model.specs.Run.{IsIn}
+use Rattle.xm_colours.specs.Inner.Words.{holds, set_below, set_of, sets_of}
+use Rattle.xm_model.specs.Membership.{IsIn}
 
 set_at : (words : List ℕ) (c : ℕ) → c < length words → colours_at (sets_of words) c ≡ set_of (get_or words c 0)
 set_at [] c inside = absurd (omega arith)

@@ -5,13 +5,12 @@ use Rattle.std.proofs.lemmas.List.{map-append, take_more}
 use Rattle.xm_colours.proofs.Among.{in_from, is_in}
 use Rattle.xm_colours.proofs.Words.{of_has, of_tells}
 use Rattle.xm_colours.specs.Allowing.{AllowsAll, IsFirstRefused, IsUpTo, Refuses}
-use Rattle.xm_colours.specs.Refusing.{FoundFirst, IsFirstMissing, IsWithin}
-use Rattle.xm_colours.specs.Words.{holds, set_of}
+use Rattle.xm_colours.specs.Inner.Refusing.{FoundFirst, IsFirstMissing, IsWithin}
+use Rattle.xm_colours.specs.Inner.Words.{holds, set_of}
 use Rattle.xm_colours.specs.declared.allow.ColourFault.{ColourFault}
 use Rattle.xm_model.specs.Naming.{Allowed, allowed_of}
-use Rattle.xm_model.specs.Owner.{In}
-use Rattle.xm_model.specs.Run.{IsIn}
-use Rattle.xm_model.specs.declared.parts.Allow.{Allow}
+use Rattle.xm_model.specs.Membership.{IsIn}
+use Rattle.xm_model.specs.declared.naming.Allow.{Allow}
 
 refuses_left : (xs ys : List Allowed) (c d : ℕ) → Refuses xs c d → Refuses (xs ++ ys) c d
 refuses_left [] ys c d h = absurd h
@@ -75,16 +74,16 @@ module _ (colours : ℕ → List ℕ) (xs ys : List Allowed) where
       ]
 
 -- one entry, from the words of its channel's set and of its colours
-module _ (colours : ℕ → List ℕ) (entry : Allowed) (listed : List ℕ) (word other : ℕ) (is : colours entry.channel ≡ set_of word) (same : listed ≡ entry.colours) (so : (d : ℕ) → d < 64 → (holds other d ≡ true) ↔ In d listed) where
+module _ (colours : ℕ → List ℕ) (entry : Allowed) (listed : List ℕ) (word other : ℕ) (is : colours entry.channel ≡ set_of word) (same : listed ≡ entry.colours) (so : (d : ℕ) → d < 64 → (holds other d ≡ true) ↔ IsIn listed d) where
   in_word : (c d : ℕ) → entry.channel ≡ c → IsIn (colours c) d → (d < 64) × (holds word d ≡ true)
   in_word c d e i = of_tells word d (subst (λ (ds : List ℕ). IsIn ds d) is (subst (λ (k : ℕ). IsIn (colours k) d) (sym e) i))
 
   is_listed : (d : ℕ) → d < 64 → holds other d ≡ true → IsIn entry.colours d
-  is_listed d below h = is_in entry.colours d (subst (λ (ds : List ℕ). In d ds) same ((so d below).0 h))
+  is_listed d below h = is_in entry.colours d (subst (λ (ds : List ℕ). IsIn ds d) same ((so d below).0 h))
 
   not_listed : (d : ℕ) → d < 64 → holds other d ≡ false → IsIn entry.colours d → ⊥
   not_listed d below h i =
-      let there = (so d below).1 (subst (λ (ds : List ℕ). In d ds) (sym same) (in_from entry.colours d i)) in
+      let there = (so d below).1 (subst (λ (ds : List ℕ). IsIn ds d) (sym same) (in_from entry.colours d i)) in
       absurd cc
 
   not_held : (d : ℕ) → d < 64 → (IsIn entry.colours d → ⊥) → holds other d ≡ false

@@ -11,10 +11,10 @@ use Rattle.std.proofs.lemmas.List.Sums.{sum_by-set}
 use Rattle.xm_colours.proofs.Among.{in_either, in_left, in_map, in_right, place_in}
 use Rattle.xm_colours.proofs.Words.{of_has, of_le, of_more, of_rises, of_tells}
 use Rattle.xm_colours.specs.Family.{Rises, colours_at}
-use Rattle.xm_colours.specs.Spreading.{AddsOver, Fit, pair}
-use Rattle.xm_colours.specs.Words.{Has, holds, lacking, set_of, sets_of}
-use Rattle.xm_colours.specs.declared.images.Pair.{Pair}
-use Rattle.xm_model.specs.Owner.{In}
+use Rattle.xm_colours.specs.Inner.Spreading.{AddsOver, Fit, pair}
+use Rattle.xm_colours.specs.Inner.Words.{Has, holds, lacking, set_of, sets_of}
+use Rattle.xm_colours.specs.declared.pairs.Pair.{Pair}
+use Rattle.xm_model.specs.Membership.{IsIn}
 
 pub has_tells : (words : List ℕ) (c d : ℕ) → Has words c d → (c < length words) × (d < 64) × (holds (get_or words c 0) d ≡ true)
 has_tells [] c d h = absurd h
@@ -168,13 +168,13 @@ adds_all c ds i past ws vs is js p = subst (λ (xs : List ℕ). AddsOver (map (p
 
 -- the one or two pairs that a primitive makes
 pub fit_first : (ps qs rs : List Pair) (n : ℕ) → ps ++ qs ≡ rs → Fit rs n → Fit ps n
-fit_first ps qs rs n e fit x h = fit x (subst (λ (s : List Pair). In x s) e (in_left x ps qs h))
+fit_first ps qs rs n e fit x h = fit x (subst (λ (s : List Pair). IsIn s x) e (in_left x ps qs h))
 
 pub fit_second : (ps qs rs : List Pair) (n m : ℕ) → ps ++ qs ≡ rs → m ≡ n → Fit rs n → Fit qs m
-fit_second ps qs rs n m e same fit x h = rw same (fit x (subst (λ (s : List Pair). In x s) e (in_right x ps qs h)))
+fit_second ps qs rs n m e same fit x h = rw same (fit x (subst (λ (s : List Pair). IsIn s x) e (in_right x ps qs h)))
 
-pub adds_images : (ps qs rs : List Pair) (ws vs us : List ℕ) (is js ks : List Pair) → ps ++ qs ≡ rs → AddsOver ps ws is vs js → AddsOver qs vs js us ks → AddsOver rs ws is us ks
-adds_images ps qs rs ws vs us is js ks e p q = subst (λ (s : List Pair). AddsOver s ws is us ks) e (adds_both ps qs ws vs us is js ks p q)
+pub adds_sent : (ps qs rs : List Pair) (ws vs us : List ℕ) (is js ks : List Pair) → ps ++ qs ≡ rs → AddsOver ps ws is vs js → AddsOver qs vs js us ks → AddsOver rs ws is us ks
+adds_sent ps qs rs ws vs us is js ks e p q = subst (λ (s : List Pair). AddsOver s ws is us ks) e (adds_both ps qs ws vs us is js ks p q)
 
 -- a list is its front and its last
 pub split_last : (xs : List Pair) (n : ℕ) (last : Pair) (front : List Pair) → n ≡ length xs → slice_get xs (n - 1) ≡ Some last → front ≡ remove xs (n - 1) → xs ≡ front ++ last ∷ []
@@ -187,4 +187,4 @@ split_last xs n last front e at f =
     sym (take_all (length xs) xs (omega arith)) ∙ ap (λ k. take k xs) (sym all) ∙ more ∙ ap (λ (σ : Pair). take (n - 1) xs ++ σ ∷ []) (get_or_from_slice_get xs (n - 1) last last at) ∙ ap (λ (s : List Pair). s ++ last ∷ []) (sym is)
 
 pub fit_named : (ps qs : List Pair) (n : ℕ) → ps ≡ qs → Fit qs n → Fit ps n
-fit_named ps qs n e fit x h = fit x (subst (λ (s : List Pair). In x s) e h)
+fit_named ps qs n e fit x h = fit x (subst (λ (s : List Pair). IsIn s x) e h)

@@ -11,17 +11,17 @@ use Rattle.xm_colours.proofs.Among.{in_either, in_left, in_right}
 use Rattle.xm_colours.proofs.Sets.{has_tells, sets_rise}
 use Rattle.xm_colours.proofs.Through.{closed_from, closed_given, closed_sent, covers, given_fits, sent_fits}
 use Rattle.xm_colours.specs.Family.{AreColours, colours_at}
-use Rattle.xm_colours.specs.Spreading.{AddsOver, Covers, Fit, HasGiven, IsPassed, IsSpreadOver, given, pair, sent}
-use Rattle.xm_colours.specs.Words.{Has, holds, lacking, set_of, sets_of}
-use Rattle.xm_colours.specs.declared.images.Pair.{Pair}
+use Rattle.xm_colours.specs.Inner.Spreading.{AddsOver, Covers, Fit, HasGiven, IsPassed, IsSpreadOver, given, pair, sent}
+use Rattle.xm_colours.specs.Inner.Words.{Has, holds, lacking, set_of, sets_of}
+use Rattle.xm_colours.specs.declared.pairs.Pair.{Pair}
 use Rattle.xm_model.specs.Component.{Component, component_of}
-use Rattle.xm_model.specs.declared.parts.Primitive.{Primitive}
-use Rattle.xm_model.specs.Counted.{counted, driven_below, taken_below}
-use Rattle.xm_model.specs.Limits.{prim_fits}
+use Rattle.xm_model.specs.declared.primitive.Primitive.{Primitive}
+use Rattle.xm_model.specs.Lemmas.PortCounts.{counted, output_below}
+use Rattle.xm_model.specs.Lemmas.PrimitiveFits.{prim_fits}
 use Rattle.xm_model.specs.Net.{HasPrim, IsNet, Network}
-use Rattle.xm_model.specs.Owner.{In}
-use Rattle.xm_model.specs.Ports.{Drives, IsTaker, Takes}
-use Rattle.xm_model.specs.Takers.{one_taker}
+use Rattle.xm_model.specs.Membership.{IsIn}
+use Rattle.xm_model.specs.Ports.{HasOutput, IsTarget, HasInput}
+use Rattle.xm_model.specs.Lemmas.OneTarget.{one_target}
 
 no_colour : (d : ℕ) → holds 0 d ≡ true → ⊥
 no_colour d h = let none = bit_at-zero d in let one = eqb-true (bit_at 0 d) 1 h in absurd (omega arith)
@@ -63,12 +63,12 @@ prim_within net prims n i same past inside =
 
 module _ (net : Network) (is_net : IsNet net) where
   -- what a primitive brings or makes are pairs of the net
-  pub fits : (ps : List Pair) (i : ℕ) (m : Component) → HasPrim net i m → ((x : Pair) → In x ps → Drives m x.channel × (x.colour < net.colours)) → Fit ps net.channels
+  pub fits : (ps : List Pair) (i : ℕ) (m : Component) → HasPrim net i m → ((x : Pair) → IsIn ps x → HasOutput m x.channel × (x.colour < net.colours)) → Fit ps net.channels
   fits ps i m has h x inside =
       let r = h x inside in
       let below = r.1 in
       let most = is_net.limits.colours in
-      (driven_below net (counted net is_net) i m x.channel has r.0, omega arith)
+      (output_below net (counted net is_net) i m x.channel has r.0, omega arith)
 
   pub fits_given : (i : ℕ) (m : Component) → HasPrim net i m → (n : ℕ) → n ≡ net.channels → Fit (given m) n
   fits_given i m has n e = rw e (fits (given m) i m has (λ x h. given_fits net.colours x m (prim_fits net is_net i m has) h))
@@ -90,7 +90,7 @@ module _ (net : Network) (is_net : IsNet net) where
       passed = λ c d h. elim (adds.waits c d h) [
         | inl w ↦ elim (so.passed c d w) [
           | inl p ↦ inl (adds.still (pair c d) p)
-          | inr p ↦ inr (λ j q at takes x s. adds.kept x.channel x.colour (p j q at takes x s))
+          | inr p ↦ inr (λ j q at has_input x s. adds.kept x.channel x.colour (p j q at has_input x s))
         ]
         | inr w ↦ inl w
       ];
@@ -102,19 +102,19 @@ module _ (net : Network) (is_net : IsNet net) where
       | inl same ↦
           let here : slice_get net.prims j ≡ slice_get net.prims i = ap (slice_get net.prims) same in
           let is : m ≡ q = cc in
-          adds.added x (subst (λ (p : Component). In x (given p)) (sym is) h)
+          adds.added x (subst (λ (p : Component). IsIn (given p) x) (sym is) h)
       | inr apart ↦ adds.kept x.channel x.colour (given_below j q (omega arith) at x h)
     ]
 
   -- a pending pair goes on
-  module _ (words new_words : List ℕ) (front new_pending : List Pair) (it : Pair) (so : IsSpreadOver net words (front ++ it ∷ [])) (i : ℕ) (m : Component) (has : HasPrim net i m) (takes : Takes m it.channel) (adds : AddsOver (sent m it) words front new_words new_pending) where
+  module _ (words new_words : List ℕ) (front new_pending : List Pair) (it : Pair) (so : IsSpreadOver net words (front ++ it ∷ [])) (i : ℕ) (m : Component) (has : HasPrim net i m) (has_input : HasInput m it.channel) (adds : AddsOver (sent m it) words front new_words new_pending) where
     pub stepped : IsSpreadOver net new_words new_pending
     stepped = record {
       whole = adds.whole ∙ so.whole;
       colours = λ c d h. elim (adds.only c d h) [ inl w ↦ so.colours c d w | inr w ↦ (sent_fits net.colours (pair c d) m it (prim_fits net is_net i m has) (so.colours it.channel it.colour there) w).1 ];
       least = λ family closed c d h. elim (adds.only c d h) [
         | inl w ↦ so.least family closed c d w
-        | inr w ↦ closed_sent family m it.channel it.colour (pair c d) (closed i m has) takes (so.least family closed it.channel it.colour there) w
+        | inr w ↦ closed_sent family m it.channel it.colour (pair c d) (closed i m has) has_input (so.least family closed it.channel it.colour there) w
       ];
       has = λ x h. elim (adds.new x h) [ inl w ↦ adds.kept x.channel x.colour (so.has x (in_left x front (it ∷ []) w)) | inr w ↦ adds.added x w ];
       passed = λ c d h. elim (adds.waits c d h) [
@@ -133,7 +133,7 @@ module _ (net : Network) (is_net : IsNet net) where
       there = so.has it (in_right it front (it ∷ []) (inl refl))
 
       went : IsPassed net new_words it.channel it.colour
-      went j q at t x s = adds.added x (subst (λ (p : Component). In x (sent p it)) (one_taker net is_net j i it.channel q m at has t takes) s)
+      went j q at t x s = adds.added x (subst (λ (p : Component). IsIn (sent p it) x) (one_target net is_net j i it.channel q m at has t has_input) s)
 
       longer : length (front ++ it ∷ []) ≡ length front + 1
       longer = simp length-append refl
@@ -163,22 +163,22 @@ module _ (net : Network) (is_net : IsNet net) (words : List ℕ) (pending front 
     last_fits mid same = rw (ap length same ∙ so.whole) (fits_sent net is_net i m it has last_colour)
 
     -- it goes on through the primitive that takes from its channel
-    pub stepped_to : IsTaker net i it.channel → (mid new_words : List ℕ) (new_pending : List Pair) → mid ≡ words → AddsOver (sent m it) mid front new_words new_pending →
+    pub stepped_to : IsTarget net i it.channel → (mid new_words : List ℕ) (new_pending : List Pair) → mid ≡ words → AddsOver (sent m it) mid front new_words new_pending →
         IsSpreadOver net new_words new_pending × (lacking new_words + length new_pending < lacking words + length pending) × ((c d : ℕ) → Has words c d → Has new_words c d)
-    stepped_to taker mid new_words new_pending same adds =
-        let at = taker.has in
-        let is : taker.prim ≡ m = cc in
-        let takes : Takes m it.channel = subst (λ (p : Component). Takes p it.channel) is taker.takes in
+    stepped_to target mid new_words new_pending same adds =
+        let at = target.has in
+        let is : target.prim ≡ m = cc in
+        let has_input : HasInput m it.channel = subst (λ (p : Component). HasInput p it.channel) is target.has_input in
         let now : AddsOver (sent m it) words front new_words new_pending = subst (λ (ws : List ℕ). AddsOver (sent m it) ws front new_words new_pending) same adds in
         let count : length pending ≡ length (front ++ it ∷ []) = ap length split in
-        let less = stepped_less net is_net words new_words front new_pending it so_split i m has takes now in
-        (stepped net is_net words new_words front new_pending it so_split i m has takes now, omega arith, now.kept)
+        let less = stepped_less net is_net words new_words front new_pending it so_split i m has has_input now in
+        (stepped net is_net words new_words front new_pending it so_split i m has has_input now, omega arith, now.kept)
 
 -- nothing is pending
 all_passed : (net : Network) (words : List ℕ) → IsSpreadOver net words [] → HasGiven net (length net.prims) words → AreColours net (colours_at (sets_of words))
 all_passed net words so brought = record {
   closed = λ i m has. closed_from (colours_at (sets_of words)) m (brought i m (slice_get_within net.prims i m has) has)
-      (λ c d takes h x s. elim (so.passed c d h) [ inl p ↦ absurd p | inr p ↦ p i m has takes x s ]);
+      (λ c d has_input h x s. elim (so.passed c d h) [ inl p ↦ absurd p | inr p ↦ p i m has has_input x s ]);
   least = so.least;
   rise = sets_rise words;
 }

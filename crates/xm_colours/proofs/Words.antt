@@ -7,31 +7,30 @@ use Rattle.std.specs.Int.{bit_at, bit_not, trailing_zeros}
 use Rattle.std.specs.Prelude.{bit_and, bit_or, min}
 use Rattle.xm_colours.proofs.Among.{in_either, in_from, in_left, in_right, in_where, is_in, where_in}
 use Rattle.xm_colours.specs.Family.{Rises}
-use Rattle.xm_colours.specs.Refusing.{IsFirstMissing, IsWithin}
-use Rattle.xm_colours.specs.Words.{holds, set_below, set_of}
-use Rattle.xm_model.specs.Owner.{In}
-use Rattle.xm_model.specs.Run.{IsIn}
+use Rattle.xm_colours.specs.Inner.Refusing.{IsFirstMissing, IsWithin}
+use Rattle.xm_colours.specs.Inner.Words.{holds, set_below, set_of}
+use Rattle.xm_model.specs.Membership.{IsIn}
 
-set_tells : (word n d : ℕ) → In d (set_below word n) → (d < n) × (holds word d ≡ true)
+set_tells : (word n d : ℕ) → IsIn (set_below word n) d → (d < n) × (holds word d ≡ true)
 set_tells word zero d h = absurd h
 set_tells word (suc n) d h = elim (in_either d (set_below word n) (cond (holds word n) (n ∷ []) []) h) [
   | inl i ↦ let r = set_tells word n d i in let below = r.0 in (omega arith, r.1)
   | inr i ↦ let r = in_where (holds word n) n d i in let same = r.1 in (omega arith, subst (λ (k : ℕ). holds word k ≡ true) same r.0)
 ]
 
-set_has : (word n d : ℕ) → d < n → holds word d ≡ true → In d (set_below word n)
+set_has : (word n d : ℕ) → d < n → holds word d ≡ true → IsIn (set_below word n) d
 set_has word zero d below h = absurd (omega arith)
 set_has word (suc n) d below h = elim (cases_eq d n) [
-  | inl same ↦ in_right d (set_below word n) (cond (holds word n) (n ∷ []) []) (subst (λ (k : ℕ). In k (cond (holds word n) (n ∷ []) [])) (sym same) (where_in (holds word n) n (subst (λ (k : ℕ). holds word k ≡ true) same h)))
+  | inl same ↦ in_right d (set_below word n) (cond (holds word n) (n ∷ []) []) (subst (λ (k : ℕ). IsIn (cond (holds word n) (n ∷ []) []) k) (sym same) (where_in (holds word n) n (subst (λ (k : ℕ). holds word k ≡ true) same h)))
   | inr apart ↦ in_left d (set_below word n) (cond (holds word n) (n ∷ []) []) (set_has word n d (omega arith) h)
 ]
 
-rises_on : (xs : List ℕ) (n : ℕ) → Rises xs → ((d : ℕ) → In d xs → d < n) → Rises (xs ++ n ∷ [])
+rises_on : (xs : List ℕ) (n : ℕ) → Rises xs → ((d : ℕ) → IsIn xs d → d < n) → Rises (xs ++ n ∷ [])
 rises_on [] n h below = tt
 rises_on (x ∷ []) n h below = (below x (inl refl), tt)
 rises_on (x ∷ y ∷ ys) n h below = (h.0, rises_on (y ∷ ys) n h.1 (λ d i. below d (inr i)))
 
-rises_last : (b : Bool) (xs : List ℕ) (n : ℕ) → Rises xs → ((d : ℕ) → In d xs → d < n) → Rises (xs ++ cond b (n ∷ []) [])
+rises_last : (b : Bool) (xs : List ℕ) (n : ℕ) → Rises xs → ((d : ℕ) → IsIn xs d → d < n) → Rises (xs ++ cond b (n ∷ []) [])
 rises_last true xs n h below = rises_on xs n h below
 rises_last false [] n h below = tt
 rises_last false (x ∷ xs) n h below = subst Rises (sym (append-nil (x ∷ xs))) h
@@ -161,11 +160,11 @@ unfolding set_of
 of_none = none_below 64
 
 -- a set that is made of a list
-module _ (word : ℕ) (xs : List ℕ) (i : ℕ) (inside : i < length xs) (so : (d : ℕ) → d < 64 → (holds word d ≡ true) ↔ In d (take i xs)) where
+module _ (word : ℕ) (xs : List ℕ) (i : ℕ) (inside : i < length xs) (so : (d : ℕ) → d < 64 → (holds word d ≡ true) ↔ IsIn (take i xs) d) where
   more : take (i + 1) xs ≡ take i xs ++ get_or xs i 0 ∷ []
   more = take_more xs i 0 inside
 
-  pub from_more : (new : ℕ) → holds new (get_or xs i 0) ≡ true → ((e : ℕ) → e ≢ get_or xs i 0 → holds new e ≡ holds word e) → (d : ℕ) → d < 64 → (holds new d ≡ true) ↔ In d (take (i + 1) xs)
+  pub from_more : (new : ℕ) → holds new (get_or xs i 0) ≡ true → ((e : ℕ) → e ≢ get_or xs i 0 → holds new e ≡ holds word e) → (d : ℕ) → d < 64 → (holds new d ≡ true) ↔ IsIn (take (i + 1) xs) d
   from_more new same others d below = rw more (
     λ h. elim (cases_eq d (get_or xs i 0)) [
       | inl e ↦ in_right d (take i xs) (get_or xs i 0 ∷ []) (inl (sym e))
@@ -180,7 +179,7 @@ module _ (word : ℕ) (xs : List ℕ) (i : ℕ) (inside : i < length xs) (so : (
     ],
   )
 
-  pub from_past : 64 ≤ get_or xs i 0 → (d : ℕ) → d < 64 → (holds word d ≡ true) ↔ In d (take (i + 1) xs)
+  pub from_past : 64 ≤ get_or xs i 0 → (d : ℕ) → d < 64 → (holds word d ≡ true) ↔ IsIn (take (i + 1) xs) d
   from_past past d below = rw more (
     λ h. in_left d (take i xs) (get_or xs i 0 ∷ []) ((so d below).0 h),
     λ h. elim (in_either d (take i xs) (get_or xs i 0 ∷ []) h) [

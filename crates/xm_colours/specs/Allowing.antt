@@ -1,7 +1,7 @@
 -- The first pair that a list of allowed colours refuses.
 use Rattle.std.specs.Prelude.{◌≡◌, ◌⊎◌, ℕ, ◌<◌, ◌≤◌, List, [], ◌∷◌}
 use Rattle.xm_model.specs.Naming.{Allowed}
-use Rattle.xm_model.specs.Run.{IsIn}
+use Rattle.xm_model.specs.Membership.{IsIn}
 
 -- some entry of the list names the channel and lacks the colour
 abbrev pub Refuses : List Allowed → ℕ → ℕ → Type 0

@@ -3,7 +3,7 @@ use Rattle.std.specs.Prelude.{◌≡◌, ℕ, true, false, List, Bool}
 use Rattle.xm_colours.specs.Family.{AreColours}
 use Rattle.xm_model.specs.Component.{Switch}
 use Rattle.xm_model.specs.Net.{HasPrim, IsNet, Network}
-use Rattle.xm_model.specs.Run.{IsIn}
+use Rattle.xm_model.specs.Membership.{IsIn}
 use Rattle.xm_model.specs.Signals.{takes_a}
 
 -- a switch's outputs have no colours but those that go there

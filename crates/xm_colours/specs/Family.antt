@@ -2,7 +2,7 @@
 use Rattle.std.specs.Prelude.{◌≡◌, ℕ, ◌<◌, true, false, List, [], ◌∷◌, slice_index, slice_index_or}
 use Rattle.xm_model.specs.Component.{Component, Fork, Function, Join, Merge, Queue, Sink, Source, Switch}
 use Rattle.xm_model.specs.Net.{HasPrim, Network}
-use Rattle.xm_model.specs.Run.{IsIn}
+use Rattle.xm_model.specs.Membership.{IsIn}
 use Rattle.xm_model.specs.Signals.{at_side, takes_a}
 
 -- the first colours are all among the second
@@ -16,10 +16,12 @@ Closed colours (Sink input mode) = Unit {0}
 Closed colours (Queue input out capacity initial) = Within (colours input) (colours out) × Within initial (colours out)
 Closed colours (Function input out table) = (d : ℕ) → IsIn (colours input) d → IsIn (colours out) (slice_index table d)
 Closed colours (Fork input a b ta tb) =
-    ((d : ℕ) → IsIn (colours input) d → IsIn (colours a) (slice_index ta d)) × ((d : ℕ) → IsIn (colours input) d → IsIn (colours b) (slice_index tb d))
+    ((d : ℕ) → IsIn (colours input) d → IsIn (colours a) (slice_index ta d))
+    × ((d : ℕ) → IsIn (colours input) d → IsIn (colours b) (slice_index tb d))
 Closed colours (Join a b out pass) = Within (colours (at_side pass a b)) (colours out)
 Closed colours (Switch input a b to_a) =
-    ((d : ℕ) → IsIn (colours input) d → takes_a to_a d ≡ true → IsIn (colours a) d) × ((d : ℕ) → IsIn (colours input) d → takes_a to_a d ≡ false → IsIn (colours b) d)
+    ((d : ℕ) → IsIn (colours input) d → takes_a to_a d ≡ true → IsIn (colours a) d)
+    × ((d : ℕ) → IsIn (colours input) d → takes_a to_a d ≡ false → IsIn (colours b) d)
 Closed colours (Merge a b out) = Within (colours a) (colours out) × Within (colours b) (colours out)
 
 -- and at each of the net

@@ -1,7 +1,5 @@
 pub mod Allowing
 pub mod Cuts
 pub mod Family
+pub mod Inner
 pub mod Pairs
-pub mod Refusing
-pub mod Spreading
-pub mod Words

@@ -1,6 +1,6 @@
 -- Channels with their colours, and queues with the colours of their outputs.
 use Rattle.std.specs.Prelude.{ℕ, zero, suc, List, [], ◌∷◌, ◌++◌, map}
-use Rattle.xm_model.specs.Component.{Component, Fork, Function, Join, Merge, Queue, Sink, Source, Switch}
+use Rattle.xm_model.specs.Component.{Component, Queue}
 
 -- the pairs of the first channels: a channel with a colour of its set, by channel and then colour
 abbrev pub pairs : (ℕ → List ℕ) → ℕ → List (ℕ × ℕ)
@@ -9,14 +9,8 @@ pairs colours (suc c) = pairs colours c ++ map (λ d. (c, d)) (colours c)
 
 -- of primitive number p
 abbrev pub queue_pairs_at : (ℕ → List ℕ) → ℕ → Component → List (ℕ × ℕ)
-queue_pairs_at colours p (Source out cs mode) = []
-queue_pairs_at colours p (Sink input mode) = []
-queue_pairs_at colours p (Queue input out capacity initial) = map (λ d. (p, d)) (colours out)
-queue_pairs_at colours p (Function input out table) = []
-queue_pairs_at colours p (Fork input a b ta tb) = []
-queue_pairs_at colours p (Join a b out pass) = []
-queue_pairs_at colours p (Switch input a b to_a) = []
-queue_pairs_at colours p (Merge a b out) = []
+queue_pairs_at colours p (Queue _ out _ _) = map (λ d. (p, d)) (colours out)
+queue_pairs_at colours p _ = []
 
 -- the queue pairs of primitives that are numbered from p on: a queue with a colour of its output's set, by primitive
 -- and then colour

@@ -3,7 +3,7 @@
 ghost use Rattle.std.specs.Prelude.{◌≡◌, [], ◌∷◌, ◌++◌, ◌⊎◌, ℕ, map, IfErr, OnOk, List as Items};
 ghost use Rattle.xm_colours.specs.Allowing.{AllowsAll, IsFirstRefused, IsUpTo};
 ghost use Rattle.xm_colours.specs.Family.{AreColours, colours_at};
-ghost use Rattle.xm_colours.specs.Refusing.{FoundFirst};
+ghost use Rattle.xm_colours.specs.Inner.Refusing.{FoundFirst};
 ghost use Rattle.xm_model.specs.Naming.{Allowed, allowed_of};
 
 use crate::colours::Colours;
@@ -46,7 +46,8 @@ fn lesser(it: ColourFault, other: ColourFault) -> ColourFault
 
 /// The first of what was found in two lists, one after the other.
 fn first_of_both(found: Option<ColourFault>, other: Option<ColourFault>) -> Option<ColourFault>
-    ensures { (colours : ℕ → Items ℕ) (xs ys : Items Allowed) → FoundFirst colours xs found → FoundFirst colours ys other → FoundFirst colours (xs ++ ys) result }
+    ensures { (colours : ℕ → Items ℕ) (xs ys : Items Allowed) → FoundFirst colours xs found → FoundFirst colours ys other
+        → FoundFirst colours (xs ++ ys) result }
 {
     match (found, other) {
         (None, None) => None,
@@ -61,7 +62,8 @@ fn first_of_both(found: Option<ColourFault>, other: Option<ColourFault>) -> Opti
 pub fn allowed(net: &Net, colours: &Colours, allow: &List<Allow>) -> Result<(), ColourFault>
     requires { AreColours net.now (colours_at colours.now) }
     ensures ok { OnOk result (AllowsAll (colours_at colours.now) (map allowed_of allow.now.items)) }
-    ensures err { IfErr result (λ fault. IsFirstRefused (colours_at colours.now) (map allowed_of allow.now.items) fault.channel fault.colour) }
+    ensures err { IfErr result (λ fault. IsFirstRefused (colours_at colours.now) (map allowed_of allow.now.items)
+        fault.channel fault.colour) }
 {
     let mut found = None;
     for entry in allow.as_slice() {

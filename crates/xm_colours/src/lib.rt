@@ -4,8 +4,8 @@
 
 mod allow;
 mod colours;
-mod images;
 mod laws;
+mod pairs;
 mod spread;
 mod word;
 
@@ -13,6 +13,3 @@ pub use allow::{ColourFault, allowed};
 pub use colours::Colours;
 pub use laws::cuts_hold;
 pub use spread::infer;
-
-#[cfg(test)]
-mod tests;

@@ -4,12 +4,12 @@
 ghost use Rattle.std.specs.Prelude.{◌≡◌, ℕ, ◌^◌, ◌<◌, [], ◌∷◌, ◌++◌, length, map, replicate, slice_set, IfOk, OnOk};
 ghost use Rattle.std.specs.Option.{option_to_list};
 ghost use Rattle.xm_colours.specs.Family.{AreColours, colours_at};
-ghost use Rattle.xm_colours.specs.Spreading.{Adds, Covers, Fit, HasGiven, IsSpread, given, pair, sent, work_left};
-ghost use Rattle.xm_colours.specs.Words.{Has};
+ghost use Rattle.xm_colours.specs.Inner.Spreading.{Adds, Covers, Fit, HasGiven, IsSpread, given, pair, sent, work_left};
+ghost use Rattle.xm_colours.specs.Inner.Words.{Has};
 ghost use Rattle.xm_model.specs.Component.{component_of};
 
 use crate::colours::Colours;
-use crate::images::{Pair, images};
+use crate::pairs::{Pair, sent};
 use crate::word::{contains, with};
 use std::alloc::Global;
 use xm_model::{List, Net, OutOfMemory, Prim};
@@ -34,12 +34,7 @@ impl Spread {
         ensures words { IfOk result (λ spread. spread.words.items ≡ replicate channels 0) }
         ensures pending { IfOk result (λ spread. spread.pending.items ≡ []) }
     {
-        let mut words = List::new(alloc);
-        words.reserve(channels)?;
-        for k in 0..channels {
-            let _count = k;
-            words.push(0)?;
-        }
+        let words = List::filled(alloc, 0, channels)?;
         Ok(Spread {
             words,
             pending: List::new(alloc),
@@ -84,8 +79,8 @@ impl Spread {
         Ok(())
     }
 
-    /// What the primitive brings by itself: a source its colours, a queue its initial packets.
-    fn seed(&mut self, prim: &Prim) -> Result<(), OutOfMemory>
+    /// What is given by the primitive itself: by a source its colours, by a queue its initial packets.
+    fn add_given(&mut self, prim: &Prim) -> Result<(), OutOfMemory>
         requires { Fit (given (component_of prim.now)) (length self.old.words.items) }
         ensures { OnOk result (Adds (given (component_of prim.now)) self.old self.new) }
     {
@@ -101,25 +96,25 @@ impl Spread {
         }
     }
 
-    fn seed_all(&mut self, net: &Net) -> Result<(), OutOfMemory>
+    fn add_each_given(&mut self, net: &Net) -> Result<(), OutOfMemory>
         requires { IsSpread net.now self.old }
         ensures spread { OnOk result (IsSpread net.now self.new) }
         ensures given { OnOk result (HasGiven net.now (length net.now.prims) self.new.words.items) }
     {
-        let _channels = net.channels();
+        net.is_net();
         for prim in net.prims().as_slice() {
-            self.seed(prim)?;
+            self.add_given(prim)?;
         }
         Ok(())
     }
 
-    /// What the primitive makes of a pair that comes in.
-    fn pass(&mut self, prim: &Prim, it: Pair) -> Result<(), OutOfMemory>
+    /// The pairs that the primitive sends on for one that comes in.
+    fn add_sent(&mut self, prim: &Prim, it: Pair) -> Result<(), OutOfMemory>
         requires covers { Covers (component_of prim.now) it.colour }
         requires fit { Fit (sent (component_of prim.now) it) (length self.old.words.items) }
         ensures { OnOk result (Adds (sent (component_of prim.now) it) self.old self.new) }
     {
-        let (first, second) = images(prim, it);
+        let (first, second) = sent(prim, it);
         self.add_some(first)?;
         self.add_some(second)?;
         Ok(())
@@ -144,10 +139,10 @@ impl Spread {
         ensures less { OnOk result (work_left self.new < work_left self.old) }
         ensures kept { OnOk result ((c d : ℕ) → Has self.old.words.items c d → Has self.new.words.items c d) }
     {
-        let _channels = net.channels();
+        net.is_net();
         let it = self.take_last();
         let prim = net.prim(net.target(it.channel));
-        self.pass(prim, it)?;
+        self.add_sent(prim, it)?;
         Ok(())
     }
 
@@ -172,7 +167,7 @@ pub fn infer(alloc: Global, net: &Net) -> Result<Colours, OutOfMemory>
     ensures colours { IfOk result (λ colours. AreColours net.now (colours_at colours)) }
 {
     let mut spread = Spread::none(alloc, net.channels())?;
-    spread.seed_all(net)?;
+    spread.add_each_given(net)?;
     spread.step_all(net)?;
     Ok(Colours::of(spread.words))
 }

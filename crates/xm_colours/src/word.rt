@@ -1,25 +1,25 @@
 //! Sets of up to 64 colours, as words: bit `d` of a word says that colour `d` is in.
 
 ghost use Rattle.std.specs.Prelude.{◌≡◌, ◌≢◌, ◌↔◌, ℕ, ◌<◌, ◌≤◌, true, length, IfNone, IfSome};
-ghost use Rattle.xm_colours.specs.Refusing.{IsFirstMissing, IsWithin};
-ghost use Rattle.xm_colours.specs.Words.{holds, set_below};
-ghost use Rattle.xm_model.specs.Owner.{In};
+ghost use Rattle.xm_colours.specs.Inner.Refusing.{IsFirstMissing, IsWithin};
+ghost use Rattle.xm_colours.specs.Inner.Words.{holds, set_below};
+ghost use Rattle.xm_model.specs.Membership.{IsIn};
 
-/// Whether colour `d` is in.
-pub fn contains(word: u64, d: u8) -> bool
-    requires { d < 64 }
-    ensures { result ≡ holds word d }
+/// Whether the colour is in.
+pub fn contains(word: u64, colour: u8) -> bool
+    requires { colour < 64 }
+    ensures { result ≡ holds word colour }
 {
-    (word >> d) & 1 == 1
+    (word >> colour) & 1 == 1
 }
 
-/// The set with colour `d` as well.
-pub fn with(word: u64, d: u8) -> u64
-    requires { d < 64 }
-    ensures same { holds result d ≡ true }
-    ensures others { (e : ℕ) → e ≢ d → holds result e ≡ holds word e }
+/// The set with this colour as well.
+pub fn with(word: u64, colour: u8) -> u64
+    requires { colour < 64 }
+    ensures same { holds result colour ≡ true }
+    ensures others { (e : ℕ) → e ≢ colour → holds result e ≡ holds word e }
 {
-    word | (1 << d)
+    word | (1 << colour)
 }
 
 /// How many colours below `n` are in.
@@ -30,8 +30,8 @@ pub fn count_below(word: u64, n: u8) -> u32
     ensures few { result ≤ n }
 {
     let mut count = 0;
-    for d in 0..n {
-        if contains(word, d) {
+    for colour in 0..n {
+        if contains(word, colour) {
             count += 1;
         }
     }
@@ -40,12 +40,12 @@ pub fn count_below(word: u64, n: u8) -> u32
 
 /// The set of these colours; those from 64 on are left out.
 pub fn set_from(colours: &[u8]) -> u64
-    ensures { (d : ℕ) → d < 64 → (holds result d ≡ true) ↔ In d colours.now }
+    ensures { (d : ℕ) → d < 64 → (holds result d ≡ true) ↔ IsIn colours.now d }
 {
     let mut word = 0;
-    for d in colours {
-        if *d < 64 {
-            word = with(word, *d);
+    for colour in colours {
+        if *colour < 64 {
+            word = with(word, *colour);
         }
     }
     word

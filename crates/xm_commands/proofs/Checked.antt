@@ -3,7 +3,7 @@ use Rattle.std.proofs.Common.{◌≡◌, ℕ, List, ap, sym, subst, ◌∙◌}
 use Rattle.xm_model.specs.Naming.{naming_of}
 use Rattle.xm_report.specs.Check.{check_text}
 use Rattle.xm_commands.specs.Output.{IsOutput, of_check}
-use Rattle.xm_commands.specs.Prepared.{IsPrepared}
+use Rattle.xm_commands.specs.Inner.Prepared.{IsPrepared}
 use Rattle.xm_commands.specs.declared.command.Command.TheVariants as command
 use Rattle.xm_commands.specs.declared.prepared.Prepared.{Prepared}
 

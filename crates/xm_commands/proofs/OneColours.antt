@@ -4,7 +4,7 @@ use Rattle.xm_colours.specs.Allowing.{IsFirstRefused, IsUpTo}
 use Rattle.xm_colours.specs.Family.{AreColours, Rises, Within}
 use Rattle.xm_model.specs.Naming.{Allowed}
 use Rattle.xm_model.specs.Net.{Network}
-use Rattle.xm_model.specs.Run.{IsIn}
+use Rattle.xm_model.specs.Membership.{IsIn}
 
 above : (x : ℕ) (ys : List ℕ) → Rises (x ∷ ys) → (d : ℕ) → IsIn ys d → x < d
 above x [] rise d inside = absurd inside

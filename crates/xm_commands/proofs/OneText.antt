@@ -1,7 +1,7 @@
 -- What is printed of a run hangs on its frames alone, and these on the tape alone.
 use Rattle.std.proofs.Common.{◌≡◌, ℕ, zero, suc, ◌+◌, ◌<◌, ◌≤◌, cond, List, ◌++◌, length, decimal, refl, ap, ap₂, arith}
 use Rattle.std.specs.List.{flat_map}
-use Rattle.xm_model.specs.Lines.{line}
+use Rattle.xm_model.specs.TextLines.{line}
 use Rattle.xm_model.specs.Naming.{Naming}
 use Rattle.xm_model.specs.Net.{Network}
 use Rattle.xm_model.specs.Next.{move}

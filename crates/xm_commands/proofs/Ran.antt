@@ -12,8 +12,8 @@ use Rattle.xm_tape.specs.Reading.{tape_in}
 use Rattle.xm_tape.specs.Taped.{Taped, chosen, cycles_of, rows_of}
 use Rattle.xm_trace.specs.Text.{IsTextOfRun, run_text}
 use Rattle.xm_commands.specs.Output.{IsOutput, of_run}
-use Rattle.xm_commands.specs.WhyEnded.{Change, HasAnswered, IsUnharmed, IsWriteFault}
-use Rattle.xm_commands.specs.Prepared.{IsPrepared}
+use Rattle.xm_commands.specs.Inner.WhyEnded.{Change, HasAnswered, IsUnharmed, IsWriteFault}
+use Rattle.xm_commands.specs.Inner.Prepared.{IsPrepared}
 use Rattle.xm_commands.specs.declared.command.Command.TheVariants as command
 use Rattle.xm_commands.specs.declared.prepared.Prepared.{Prepared}
 use Rattle.xm_commands.specs.declared.refusal.Refusal.{Refusal}

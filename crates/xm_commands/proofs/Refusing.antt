@@ -1,5 +1,4 @@
 -- Why bytes are refused, from the faults that were found.
-use Rattle.std.specs.Prelude.{◌≢◌, ⊤}
 use Rattle.std.proofs.Common.{◌≡◌, ℕ, true, false, List, Some, Result, Ok, Err, refl, sym, ap, subst, inl}
 use Rattle.xm_design.specs.Designed.{Designed, IsColourRefused, IsLoopRefused}
 use Rattle.xm_design.specs.declared.fault.NetFault.{NetFault}
@@ -7,20 +6,21 @@ use Rattle.xm_design.specs.declared.fault.NetFault.TheVariants as net_faults
 use Rattle.xm_model.specs.Naming.{Allowed, Naming}
 use Rattle.xm_model.specs.Net.{Network}
 use Rattle.xm_shape.specs.Fault.{Fault}
-use Rattle.xm_shape.specs.Gives.{Fails}
+use Rattle.xm_shape.specs.Gives.{Fails, fault_of}
 use Rattle.xm_shape.specs.declared.fault.DocFault.{DocFault}
 use Rattle.xm_shape.specs.declared.fault.DocFault.TheVariants as doc_faults
 use Rattle.xm_netlist.specs.Doc.{Doc}
 use Rattle.xm_netlist.specs.Reading.{document_in}
 use Rattle.xm_report.specs.Lines.{colour_line, document_line, loop_line, tape_line}
 use Rattle.xm_tape.specs.Fault as tape
+use Rattle.xm_tape.specs.Gives as reading
 use Rattle.xm_tape.specs.Reading.{tape_in}
 use Rattle.xm_tape.specs.declared.fault.TapeFault.{TapeFault}
 use Rattle.xm_tape.specs.declared.fault.TapeFault.TheVariants as tape_faults
 use Rattle.xm_commands.specs.Output.{IsDesignOf}
 use Rattle.xm_commands.specs.Refusal.{Refuses, of_colour, of_document, of_loop, of_tape}
-use Rattle.xm_commands.specs.WhyEnded.{Change, IsCause, IsUnharmed, IsUntouched}
-use Rattle.xm_commands.specs.Prepared.{IsNetFault, IsRefusedAs, is_of_wiring, is_want, is_want_of_tape, net_fault_line}
+use Rattle.xm_commands.specs.Inner.WhyEnded.{Change, IsCause, IsUnharmed, IsUntouched}
+use Rattle.xm_commands.specs.Inner.Prepared.{IsNetFault, IsRefusedAs, is_of_wiring, is_want, is_want_of_tape, net_fault_line}
 use Rattle.xm_commands.specs.declared.command.Command.{Command}
 use Rattle.xm_commands.specs.declared.command.Command.TheVariants as commands
 use Rattle.xm_commands.specs.declared.refusal.Refusal.{Refusal}
@@ -28,17 +28,17 @@ use Rattle.xm_commands.specs.declared.refusal.Refusal.TheVariants as refusal
 
 -- the line is that of the fault
 abbrev pub Lines : DocFault → List ℕ → Type 0
-Lines fault line = (it : Fault) → Fails {Y = ⊤} fault (Err it) → fault ≢ doc_faults.OutOfMemory → line ≡ document_line it
+Lines fault line = (it : Fault) → fault_of fault ≡ Some it → line ≡ document_line it
 
 module _ (bytes : List ℕ) (command : Command) (line : List ℕ) where
   pub document_refused : (fault : DocFault) → Fails fault (document_in bytes) → Lines fault line → is_want fault ≡ false → is_of_wiring fault ≡ false → Refuses bytes command 3 line
-  document_refused doc_faults.NotJson fails lines some other = subst (Refuses bytes command 3) (sym (lines _ refl (λ e. cc))) (of_document _ fails)
-  document_refused (doc_faults.Shape path) fails lines some other = subst (Refuses bytes command 3) (sym (lines _ refl (λ e. cc))) (of_document _ fails)
-  document_refused (doc_faults.UnknownKind path) fails lines some other = subst (Refuses bytes command 3) (sym (lines _ refl (λ e. cc))) (of_document _ fails)
-  document_refused (doc_faults.UnknownColour path) fails lines some other = subst (Refuses bytes command 3) (sym (lines _ refl (λ e. cc))) (of_document _ fails)
-  document_refused (doc_faults.BadName path) fails lines some other = subst (Refuses bytes command 3) (sym (lines _ refl (λ e. cc))) (of_document _ fails)
-  document_refused (doc_faults.SameName path) fails lines some other = subst (Refuses bytes command 3) (sym (lines _ refl (λ e. cc))) (of_document _ fails)
-  document_refused (doc_faults.Limit which count) fails lines some other = subst (Refuses bytes command 3) (sym (lines _ refl (λ e. cc))) (of_document _ fails)
+  document_refused doc_faults.NotJson fails lines some other = subst (Refuses bytes command 3) (sym (lines _ refl)) (of_document _ fails)
+  document_refused (doc_faults.Shape path) fails lines some other = subst (Refuses bytes command 3) (sym (lines _ refl)) (of_document _ fails)
+  document_refused (doc_faults.UnknownKind path) fails lines some other = subst (Refuses bytes command 3) (sym (lines _ refl)) (of_document _ fails)
+  document_refused (doc_faults.UnknownColour path) fails lines some other = subst (Refuses bytes command 3) (sym (lines _ refl)) (of_document _ fails)
+  document_refused (doc_faults.BadName path) fails lines some other = subst (Refuses bytes command 3) (sym (lines _ refl)) (of_document _ fails)
+  document_refused (doc_faults.SameName path) fails lines some other = subst (Refuses bytes command 3) (sym (lines _ refl)) (of_document _ fails)
+  document_refused (doc_faults.Limit which count) fails lines some other = subst (Refuses bytes command 3) (sym (lines _ refl)) (of_document _ fails)
   document_refused (doc_faults.Wiring fault names) fails lines some other = absurd cc
   document_refused doc_faults.OutOfMemory fails lines some other = absurd cc
 
@@ -50,7 +50,7 @@ module _ (bytes : List ℕ) (command : Command) (line : List ℕ) where
   wiring_refused (doc_faults.BadName path) fails lines is = absurd cc
   wiring_refused (doc_faults.SameName path) fails lines is = absurd cc
   wiring_refused (doc_faults.Limit which count) fails lines is = absurd cc
-  wiring_refused (doc_faults.Wiring fault names) fails lines is = subst (Refuses bytes command 4) (sym (lines _ refl (λ e. cc))) (of_document _ fails)
+  wiring_refused (doc_faults.Wiring fault names) fails lines is = subst (Refuses bytes command 4) (sym (lines _ refl)) (of_document _ fails)
   wiring_refused doc_faults.OutOfMemory fails lines is = absurd cc
 
   pub net_refused : (names : Naming) (doc : Doc) (fault : NetFault) → document_in bytes ≡ Ok doc → names ≡ doc.names → IsNetFault doc.net doc.allow fault → net_fault_line names fault ≡ Some line → Refuses bytes command 4 line
@@ -71,13 +71,13 @@ net_fault r net allow net_faults.OutOfMemory is refused looped = tt
 
 -- the line is that of the tape's fault
 abbrev pub TapeLines : TapeFault → List ℕ → Type 0
-TapeLines fault line = (it : tape.Fault) → tape.Fails {Y = ⊤} fault (Err it) → fault ≢ tape_faults.OutOfMemory → line ≡ tape_line it
+TapeLines fault line = (it : tape.Fault) → reading.fault_of fault ≡ Some it → line ≡ tape_line it
 
-pub tape_refused : (bytes line : List ℕ) (doc : Doc) (it : Designed) (fault : TapeFault) → document_in bytes ≡ Ok doc → IsDesignOf doc it → tape.Fails fault (tape_in doc.net doc.tape) → TapeLines fault line → is_want_of_tape fault ≡ false → Refuses bytes commands.Run 5 line
-tape_refused bytes line doc it (tape_faults.TapeShape path) read design fails lines some = subst (Refuses bytes commands.Run 5) (sym (lines _ refl (λ e. cc))) (of_tape doc it _ read design fails)
-tape_refused bytes line doc it (tape_faults.TapeLimit count) read design fails lines some = subst (Refuses bytes commands.Run 5) (sym (lines _ refl (λ e. cc))) (of_tape doc it _ read design fails)
-tape_refused bytes line doc it (tape_faults.RowLength row count) read design fails lines some = subst (Refuses bytes commands.Run 5) (sym (lines _ refl (λ e. cc))) (of_tape doc it _ read design fails)
-tape_refused bytes line doc it (tape_faults.BadMark row oracle) read design fails lines some = subst (Refuses bytes commands.Run 5) (sym (lines _ refl (λ e. cc))) (of_tape doc it _ read design fails)
+pub tape_refused : (bytes line : List ℕ) (doc : Doc) (it : Designed) (fault : TapeFault) → document_in bytes ≡ Ok doc → IsDesignOf doc it → reading.Fails fault (tape_in doc.net doc.tape) → TapeLines fault line → is_want_of_tape fault ≡ false → Refuses bytes commands.Run 5 line
+tape_refused bytes line doc it (tape_faults.TapeShape path) read design fails lines some = subst (Refuses bytes commands.Run 5) (sym (lines _ refl)) (of_tape doc it _ read design fails)
+tape_refused bytes line doc it (tape_faults.TapeLimit count) read design fails lines some = subst (Refuses bytes commands.Run 5) (sym (lines _ refl)) (of_tape doc it _ read design fails)
+tape_refused bytes line doc it (tape_faults.RowLength row count) read design fails lines some = subst (Refuses bytes commands.Run 5) (sym (lines _ refl)) (of_tape doc it _ read design fails)
+tape_refused bytes line doc it (tape_faults.BadMark row oracle) read design fails lines some = subst (Refuses bytes commands.Run 5) (sym (lines _ refl)) (of_tape doc it _ read design fails)
 tape_refused bytes line doc it tape_faults.OutOfMemory read design fails lines some = absurd cc
 
 -- what the refusal of a document says of the sink, which it leaves

@@ -7,7 +7,7 @@ use Rattle.xm_commands.proofs.OneAnswer.{excludes}
 use Rattle.xm_commands.specs.Output.{IsOutput}
 use Rattle.xm_commands.specs.Status.{Gave, IsRefused, IsTold, Prints, PrintsFront, Tells, is_of_input, is_status, line_of, most_bytes, status_of}
 use Rattle.xm_commands.specs.Status as plain
-use Rattle.xm_commands.specs.WhyEnded.{Change, HasAnswered, HasEnded, IsUnharmed, IsUntouched, IsWhy, IsWhyCalled}
+use Rattle.xm_commands.specs.Inner.WhyEnded.{Change, HasAnswered, HasEnded, IsUnharmed, IsUntouched, IsWhy, IsWhyCalled}
 use Rattle.xm_commands.specs.declared.command.Command.{Command}
 use Rattle.xm_commands.specs.declared.refusal.Refusal.{Refusal}
 use Rattle.xm_commands.specs.declared.refusal.Refusal.TheVariants as refusal

@@ -3,7 +3,7 @@ use Rattle.std.proofs.Common.{◌≡◌, ℕ, List, Result, Ok, Err, sym, subst}
 use Rattle.std.specs.Prelude.{IfErr, OnErr, OnOk}
 use Rattle.std.specs.Io.KnownBytes.{Appends}
 use Rattle.xm_commands.specs.Output.{IsOutput}
-use Rattle.xm_commands.specs.WhyEnded.{Change, HasAnswered, IsCause}
+use Rattle.xm_commands.specs.Inner.WhyEnded.{Change, HasAnswered, IsCause}
 use Rattle.xm_commands.specs.declared.command.Command.{Command}
 use Rattle.xm_commands.specs.declared.refusal.Refusal.{Refusal}
 use Rattle.xm_commands.specs.declared.refusal.Refusal.TheVariants as refusal

@@ -5,11 +5,11 @@ ghost use Rattle.xm_design.specs.Designed.{Designed};
 ghost use Rattle.xm_model.specs.Naming.{IsNamed, naming_of};
 ghost use Rattle.xm_netlist.specs.Doc.{Doc};
 ghost use Rattle.xm_netlist.specs.Reading.{document_in};
-ghost use Rattle.xm_tape.specs.Fault as tape;
+ghost use Rattle.xm_tape.specs.Gives as tape;
 ghost use Rattle.xm_tape.specs.Reading.{tape_in};
 ghost use Rattle.xm_commands.specs.Output.{IsDesignOf};
-ghost use Rattle.xm_commands.specs.Prepared.{IsPrepared, IsRefusedAs, is_want_of_tape};
-ghost use Rattle.xm_commands.specs.WhyEnded.{HasAnswered, change};
+ghost use Rattle.xm_commands.specs.Inner.Prepared.{IsPrepared, IsRefusedAs, is_want_of_tape};
+ghost use Rattle.xm_commands.specs.Inner.WhyEnded.{HasAnswered, change};
 ghost use Rattle.xm_commands.specs.declared.command.Command.TheVariants as command;
 
 use crate::command::Command;

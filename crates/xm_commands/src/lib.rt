@@ -8,10 +8,6 @@ mod laws;
 mod prepared;
 mod refusal;
 mod running;
-#[cfg(test)]
-mod tests;
-#[cfg(test)]
-mod tests_documents;
 mod top;
 mod writing;
 

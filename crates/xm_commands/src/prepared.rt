@@ -5,7 +5,7 @@ ghost use Rattle.xm_model.specs.Naming.{naming_of};
 ghost use Rattle.xm_shape.specs.Gives.{Fails};
 ghost use Rattle.xm_netlist.specs.Doc.{Doc};
 ghost use Rattle.xm_netlist.specs.Reading.{document_in};
-ghost use Rattle.xm_commands.specs.Prepared.{IsNetFault, IsPrepared, IsReadAs, IsRefusedAs, is_of_wiring, is_want, net_fault_line};
+ghost use Rattle.xm_commands.specs.Inner.Prepared.{IsNetFault, IsPrepared, IsReadAs, IsRefusedAs, is_of_wiring, is_want, net_fault_line};
 
 use crate::command::Command;
 use crate::refusal::Refusal;

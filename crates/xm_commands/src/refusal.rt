@@ -2,6 +2,7 @@
 
 ghost use Rattle.std.specs.Prelude.{◌≡◌};
 ghost use Rattle.xm_commands.specs.Status.{IsTold, line_of, status_of};
+ghost use Rattle.xm_commands.specs.declared.refusal.Refusal.TheVariants as refusals;
 
 use xm_io::{Sink, write_all};
 use xm_model::{OutOfMemory, Text};
@@ -28,10 +29,7 @@ pub enum Refusal {
 }
 
 impl From<OutOfMemory> for Refusal {
-    ghost use Rattle.std.specs.Prelude.{◌≡◌};
-    ghost use Rattle.xm_commands.specs.declared.refusal.Refusal.TheVariants as refusal;
-
-    ghost from_gives = { λ _ r. r ≡ refusal.Memory };
+    ghost from_gives = { λ _ r. r ≡ refusals.Memory };
 
     fn from(_: OutOfMemory) -> Refusal {
         Refusal::Memory

@@ -3,7 +3,7 @@
 ghost use Rattle.std.specs.Prelude.{◌≡◌, ◌≢◌, ◌⊎◌, ◌≤◌, ℕ, List as Items, None, Some, false, length, true};
 ghost use Rattle.xm_commands.specs.Output.{IsOutput};
 ghost use Rattle.xm_commands.specs.Status.{IsRefused, Prints, PrintsFront, Tells, is_of_input, is_status, most_bytes};
-ghost use Rattle.xm_commands.specs.WhyEnded.{HasEnded, change};
+ghost use Rattle.xm_commands.specs.Inner.WhyEnded.{HasEnded, change};
 ghost use Rattle.xm_commands.specs.Words.{command_of};
 ghost use Rattle.xm_io.specs.Bytes.{TakesAtMost, TakesMoreThan};
 ghost use Rattle.xm_io.specs.Faults.{Rose};

@@ -2,28 +2,15 @@
 use Rattle.std.proofs.Common.{◌≡◌, ℕ, zero, suc, ◌+◌, ◌*◌, ◌<◌, ◌≤◌, List, [], ◌∷◌, ◌++◌, length, map, get_or, slice_get, refl, ap, sym, ◌∙◌, arith, cond, Bool, true, false, Some, option_map, add-one, inl, inr}
 use Rattle.std.proofs.lemmas.Bool.Decides.{eqb_tells}
 use Rattle.std.proofs.lemmas.List.{length-map}
-use Rattle.std.proofs.lemmas.Option.{slice_get-map, slice_get_read, slice_get_within}
+use Rattle.std.proofs.lemmas.Option.{slice_get-map, slice_get_within}
 use Rattle.xm_colours.specs.Family.{Rises}
 use Rattle.xm_colours.specs.Pairs.{queue_pairs, queue_pairs_at}
 use Rattle.xm_design.specs.Numbers.{AreNumbers, ArePairsBelow, pairs_below, total_below}
-use Rattle.xm_model.specs.Component.{Component, Fork, Function, Join, Merge, Queue, Sink, Source, Switch, component_of}
-use Rattle.xm_model.specs.Lists.{is_oracle, oracles_below}
-use Rattle.xm_model.specs.declared.parts.Primitive.{Primitive}
-
--- the component that stands at i
-pub component_at : (xs : List Primitive) (i : ℕ) (x : Primitive) → i < length xs → x ≡ get_or xs i x → slice_get (map component_of xs) i ≡ Some (component_of x)
-component_at xs i x below e = rw (slice_get-map component_of xs i, slice_get_read xs (length xs) i x refl below e) refl
+use Rattle.xm_model.specs.Component.{Component, Fork, Function, Join, Merge, Queue, Sink, Source, Switch}
+use Rattle.xm_model.specs.Views.{is_oracle, oracles_below}
+use Rattle.xm_order.specs.Lemmas.Items.{get-append_right, get-append_within, get-push_last}
 
 -- ---- one more number
-
-get_last : (xs : List ℕ) (x : ℕ) → slice_get (xs ++ x ∷ []) (length xs) ≡ Some x
-get_last [] x = refl
-get_last (y ∷ ys) x = get_last ys x
-
-get_before : (xs : List ℕ) (x k : ℕ) → k < length xs → slice_get (xs ++ x ∷ []) k ≡ slice_get xs k
-get_before [] x k h = absurd (omega arith)
-get_before (y ∷ ys) x zero h = refl
-get_before (y ∷ ys) x (suc k) h = get_before ys x k (omega arith)
 
 longer : (xs : List ℕ) (x : ℕ) → length (xs ++ x ∷ []) ≡ length xs + 1
 longer [] x = refl
@@ -33,8 +20,8 @@ pub numbers_more : (number : ℕ → ℕ) (i v : ℕ) (ns : List ℕ) → AreNum
 numbers_more number i v ns before is = record {
   whole = omega (arith, longer ns v, before.whole);
   at = λ k h. elim (eqb_tells k i) [
-    | inl t ↦ (let place : k ≡ length ns = t.1 ∙ sym before.whole in ap (λ j. slice_get (ns ++ v ∷ []) j) place ∙ get_last ns v ∙ ap Some (is ∙ ap number (sym t.1)))
-    | inr t ↦ (let less : k < i = omega arith in get_before ns v k (omega (arith, less, before.whole)) ∙ before.at k less)
+    | inl t ↦ (let place : k ≡ length ns = t.1 ∙ sym before.whole in ap (λ j. slice_get (ns ++ v ∷ []) j) place ∙ get-push_last ns v ∙ ap Some (is ∙ ap number (sym t.1)))
+    | inr t ↦ (let less : k < i = omega arith in get-append_within ns (v ∷ []) k (omega (arith, less, before.whole)) ∙ before.at k less)
   ];
 }
 
@@ -90,15 +77,6 @@ few_more f p before next k h = elim (eqb_tells k (p + 1)) [
 
 -- ---- the number of a queue pair
 
-get_front : (xs ys : List (ℕ × ℕ)) (k : ℕ) → k < length xs → slice_get (xs ++ ys) k ≡ slice_get xs k
-get_front [] ys k h = absurd (omega arith)
-get_front (x ∷ xs) ys zero h = refl
-get_front (x ∷ xs) ys (suc k) h = get_front xs ys k (omega arith)
-
-get_behind : (xs ys : List (ℕ × ℕ)) (k : ℕ) → slice_get (xs ++ ys) (length xs + k) ≡ slice_get ys k
-get_behind [] ys k = ap (slice_get ys) (let e : 0 + k ≡ k = omega arith in e)
-get_behind (x ∷ xs) ys k = ap (slice_get (x ∷ (xs ++ ys))) (let e : suc (length xs) + k ≡ suc (length xs + k) = omega arith in e) ∙ get_behind xs ys k
-
 -- how many pairs a primitive has does not hang on its number
 same_count : (colours : ℕ → List ℕ) (p q : ℕ) (m : Component) → length (queue_pairs_at colours p m) ≡ length (queue_pairs_at colours q m)
 same_count colours p q (Source out cs mode) = refl
@@ -118,7 +96,7 @@ pair_at colours (m ∷ ms) p zero k d input out capacity initial has at =
     let within = slice_get_within (colours out) k d at in
     let pair : ℕ → ℕ × ℕ = λ e. (p, e) in
     let long = length-map (colours out) pair in
-    let front : slice_get (queue_pairs colours p (Queue input out capacity initial ∷ ms)) k ≡ slice_get (map pair (colours out)) k = get_front (map pair (colours out)) (queue_pairs colours (suc p) ms) k (omega (arith, within, long)) in
+    let front : slice_get (queue_pairs colours p (Queue input out capacity initial ∷ ms)) k ≡ slice_get (map pair (colours out)) k = get-append_within (map pair (colours out)) (queue_pairs colours (suc p) ms) k (omega (arith, within, long)) in
     let here : slice_get (map pair (colours out)) k ≡ Some (pair d) = slice_get-map pair (colours out) k ∙ ap (option_map pair) at in
     let start : 0 + k ≡ k = omega arith in
     let first : p + 0 ≡ p = omega arith in
@@ -127,7 +105,7 @@ pair_at colours (m ∷ ms) p (suc q) k d input out capacity initial has at =
     let rest = pair_at colours ms (suc p) q k d input out capacity initial has at in
     let count = same_count colours 0 p m in
     ap (slice_get (queue_pairs_at colours p m ++ queue_pairs colours (suc p) ms)) (let e : (length (queue_pairs_at colours 0 m) + pairs_below colours ms q) + k ≡ length (queue_pairs_at colours p m) + (pairs_below colours ms q + k) = omega (arith, count) in e)
-    ∙ get_behind (queue_pairs_at colours p m) (queue_pairs colours (suc p) ms) (pairs_below colours ms q + k)
+    ∙ get-append_right (queue_pairs_at colours p m) (queue_pairs colours (suc p) ms) _ (pairs_below colours ms q + k) refl
     ∙ rest ∙ ap (λ j. Some (j, d)) (let e : suc p + q ≡ p + suc q = omega arith in e)
 
 -- ---- a place in a list that rises is at most the number there

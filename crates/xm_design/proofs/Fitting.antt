@@ -5,15 +5,16 @@ use Rattle.std.proofs.lemmas.Bool.{cases_eq}
 use Rattle.xm_model.specs.Component.{Component, Content, Fork, Function, Held, Join, Merge, Nothing, Packets, Pending, Pref, Queue, Sink, Source, Switch}
 use Rattle.xm_model.specs.Net.{FitsComponent, HasPrim, IsNet, Network}
 use Rattle.xm_model.specs.Next.{FitsContent, content_after, next_at, reset_at, reset_content}
-use Rattle.xm_model.specs.Run.{IsIn, IsRun}
+use Rattle.xm_model.specs.Membership.{IsIn}
+use Rattle.xm_model.specs.Run.{IsRun}
 use Rattle.xm_model.specs.Signals.{Signals}
-use Rattle.xm_model.specs.declared.parts.Choice.{Choice}
-use Rattle.xm_model.specs.declared.parts.Side.{Side}
+use Rattle.xm_model.specs.declared.state.Choice.{Choice}
+use Rattle.xm_model.specs.declared.primitive.Side.{Side}
 use Rattle.xm_colours.specs.Family.{AreColours, Closed, IsClosed}
-use Rattle.xm_design.specs.ColouredRuns.{ContentFits, FitsHold, FitsNext}
+use Rattle.xm_design.specs.ColouredRuns.{FitsColours, FitsHold, FitsNext}
 use Rattle.xm_design.proofs.Coloured.{coloured, colours_hold, next_fits}
-use Rattle.xm_model.specs.Counted.{counted, driven_below, taken_below}
-use Rattle.xm_model.specs.Limits.{prim_fits}
+use Rattle.xm_model.specs.Lemmas.PortCounts.{counted, output_below, input_below}
+use Rattle.xm_model.specs.Lemmas.PrimitiveFits.{prim_fits}
 
 -- the numbers below n
 abbrev upto : ℕ → List ℕ
@@ -81,14 +82,14 @@ each_below n (p ∷ ps) at zero y h = below n p (at 0 p refl)
 each_below n (p ∷ ps) at (suc i) y h = each_below n ps (λ j. at (suc j)) i y (omega arith)
 
 -- a content of this form with colours of the net
-fits : (n : ℕ) (m : Component) (x : Content) → Form m x → ContentFits (λ c. upto n) m x → FitsContent n m x
+fits : (n : ℕ) (m : Component) (x : Content) → Form m x → FitsColours (λ c. upto n) m x → FitsContent n m x
 fits n (Source out cs mode) x (None, same) known = subst (FitsContent n (Source out cs mode)) (sym same) tt
 fits n (Source out cs mode) x (Some d, same) known =
-    let it : ContentFits (λ c. upto n) (Source out cs mode) (Pending (Some d)) = subst (ContentFits (λ c. upto n) (Source out cs mode)) same known in
+    let it : FitsColours (λ c. upto n) (Source out cs mode) (Pending (Some d)) = subst (FitsColours (λ c. upto n) (Source out cs mode)) same known in
     subst (FitsContent n (Source out cs mode)) (sym same) (below n d (it d refl))
 fits n (Sink input mode) x (b, same) known = subst (FitsContent n (Sink input mode)) (sym same) tt
 fits n (Queue input out capacity initial) x (ps, same) known =
-    let it : ContentFits (λ c. upto n) (Queue input out capacity initial) (Packets ps) = subst (ContentFits (λ c. upto n) (Queue input out capacity initial)) same known in
+    let it : FitsColours (λ c. upto n) (Queue input out capacity initial) (Packets ps) = subst (FitsColours (λ c. upto n) (Queue input out capacity initial)) same known in
     subst (FitsContent n (Queue input out capacity initial)) (sym same) (it.1, each_below n ps it.0)
 fits n (Function input out table) x same known = subst (FitsContent n (Function input out table)) (sym same) tt
 fits n (Fork input a b ta tb) x same known = subst (FitsContent n (Fork input a b ta tb)) (sym same) tt
@@ -115,7 +116,7 @@ in_all n (p ∷ ps) all zero d at = let same : p ≡ d = cc in subst (IsIn (upto
 in_all n (p ∷ ps) all (suc j) d at = in_all n ps (λ i y h. all (suc i) y (omega arith)) j d at
 
 -- a fitting content has colours of the net
-knows : (n : ℕ) (m : Component) (x : Content) → FitsContent n m x → ContentFits (λ c. upto n) m x
+knows : (n : ℕ) (m : Component) (x : Content) → FitsContent n m x → FitsColours (λ c. upto n) m x
 knows n (Source out cs mode) (Pending None) h = λ d is. absurd cc
 knows n (Source out cs mode) (Pending (Some e)) h = λ d is. (let same : e ≡ d = cc in subst (IsIn (upto n)) same (in_upto n e h))
 knows n (Source out cs mode) (Packets ps) h = absurd h
@@ -138,11 +139,11 @@ pub fits_next : FitsNext
 fits_next net signals s w φ is_net order fitting choices is_frame p m has =
     let colours : ℕ → List ℕ = λ c. upto net.colours in
     let closed : IsClosed net colours = λ q k there. all_closed net.colours k (prim_fits net is_net q k there) in
-    let known : (q : ℕ) (k : Component) → HasPrim net q k → ContentFits colours k (s q) = λ q k there. knows net.colours k (s q) (fitting q k there) in
+    let known : (q : ℕ) (k : Component) → HasPrim net q k → FitsColours colours k (s q) = λ q k there. knows net.colours k (s q) (fitting q k there) in
     let wired = counted net is_net in
     let after = next_fits net signals colours is_net order closed m (closed p m has) (s p) (w p) φ (is_frame p m has) (known p m has)
     (λ c d named is. coloured net signals colours is_net order closed s w φ is_frame known choices c d
-    (elim named [ inl drives ↦ driven_below net wired p m c has drives | inr takes ↦ taken_below net wired p m c has takes ]) is) in
+    (elim named [ inl has_output ↦ output_below net wired p m c has has_output | inr has_input ↦ input_below net wired p m c has has_input ]) is) in
     let there : next_at (Some m) (s p) φ ≡ next_at (slice_get net.prims p) (s p) φ = ap (λ o. next_at o (s p) φ) (sym has) in
     subst (FitsContent net.colours m) there (fits net.colours m (content_after m (s p) φ) (next_form m (s p) φ) after)
 

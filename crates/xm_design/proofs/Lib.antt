@@ -2,3 +2,4 @@ mod Coloured
 mod Counting
 mod Fitting
 mod Lengths
+mod Listing

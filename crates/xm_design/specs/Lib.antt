@@ -1,5 +1,6 @@
 pub mod ColouredRuns
 pub mod Designed
+pub mod Lemmas
 pub mod Numbers
-pub mod Offers
+pub mod Oracles
 pub mod Tasks

@@ -2,14 +2,14 @@
 use Rattle.std.specs.Prelude.{◌≡◌, ℕ, List, All, map}
 use Rattle.xm_design.specs.declared.tasks.Task.{Task}
 use Rattle.xm_model.specs.Net.{Network}
-use Rattle.xm_model.specs.Ports.{IsDriver, IsTaker}
+use Rattle.xm_model.specs.Ports.{IsInitiator, IsTarget}
 use Rattle.xm_order.specs.declared.signal.Signal.{Signal}
 use Rattle.xm_order.specs.declared.signal.Signal.TheVariants as signal
 
 -- the primitive offers on the signal's channel, or takes from it
 abbrev pub Makes : Network → ℕ → Signal → Type 0
-Makes net p (signal.Offer c) = IsDriver net p c
-Makes net p (signal.Ready c) = IsTaker net p c
+Makes net p (signal.Offer c) = IsInitiator net p c
+Makes net p (signal.Ready c) = IsTarget net p c
 
 abbrev pub made_signals : List Task → List Signal
 made_signals tasks = map (λ (task : Task). task.signal) tasks

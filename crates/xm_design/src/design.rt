@@ -4,18 +4,18 @@ ghost use Rattle.std.specs.Prelude.{◌≡◌, ◌<◌, ℕ, length, map, slice_
 ghost use Rattle.xm_colours.specs.Allowing.{AllowsAll};
 ghost use Rattle.xm_colours.specs.Family.{colours_at};
 ghost use Rattle.xm_colours.specs.Pairs.{queue_pairs};
-ghost use Rattle.xm_model.specs.Lists.{oracles_below};
+ghost use Rattle.xm_model.specs.Views.{oracles_below};
 ghost use Rattle.xm_model.specs.Naming.{allowed_of};
-ghost use Rattle.xm_model.specs.Run.{IsIn};
+ghost use Rattle.xm_model.specs.Membership.{IsIn};
 
 use crate::fault::NetFault;
-use crate::numbers::{Numbers, numbers_of};
-use crate::tasks::{Task, tasks_of};
+use crate::steps::{Tables, allowed_colours, order_of, tables_of};
+use crate::tasks::Task;
 use std::alloc::Global;
 use std::marker::Model;
-use xm_colours::{Colours, allowed, infer};
-use xm_model::{Allow, List, Net, Prim};
-use xm_order::{Order, OrderFault, order};
+use xm_colours::Colours;
+use xm_model::{Allow, List, Net, OutOfMemory, Prim};
+use xm_order::Order;
 
 /// A net with its colours and an order of its signals. A contract sees the three.
 #[derive(Drop)]
@@ -23,8 +23,7 @@ pub struct Design {
     net: Net,
     colours: Colours,
     order: Order,
-    tasks: List<Task>,
-    numbers: Numbers,
+    tables: Tables,
 }
 
 impl Model for Design {
@@ -36,7 +35,9 @@ impl Model for Design {
 
     ghost view = { λ d. record { net = d.net; colours = d.colours; order = d.order } };
 
-    ghost invariant = { λ d. IsKept (record { net = d.net; colours = d.colours; order = d.order }) d.numbers.oracles.items d.numbers.pairs.items d.numbers.choices d.tasks.items };
+    ghost invariant = { λ d. IsKept (record { net = d.net; colours = d.colours; order = d.order })
+        d.tables.numbers.oracles.items
+        d.tables.numbers.pairs.items d.tables.numbers.oracle_count d.tables.tasks.items };
 }
 
 impl Design {
@@ -50,26 +51,31 @@ impl Design {
         ensures net { IfOk result (λ design. design.net ≡ net) }
         ensures design { IfOk result IsDesigned }
         ensures allowed { IfOk result (λ design. AllowsAll (colours_at design.colours) (map allowed_of allow.now.items)) }
-        ensures refused { (fault : _) → result ≡ Err (NetFault.Allow fault) → IsColourRefused net (map allowed_of allow.now.items) fault.channel fault.colour }
-        ensures looped { (found : _) → result ≡ Err (NetFault.CombLoop found) → IsLoopRefused net (map allowed_of allow.now.items) found.items }
+        ensures refused { (fault : _) → result ≡ Err (NetFault.Allow fault)
+            → IsColourRefused net (map allowed_of allow.now.items) fault.channel fault.colour }
+        ensures looped { (found : _) → result ≡ Err (NetFault.CombLoop found)
+            → IsLoopRefused net (map allowed_of allow.now.items) found.items }
     {
-        let _channels = net.channels();
-        let colours = infer(alloc, &net)?;
-        allowed(&net, &colours, allow)?;
-        let order = match order(alloc, &net) {
-            Ok(order) => order,
-            Err(OrderFault::CombLoop(found)) => return Err(NetFault::CombLoop(found)),
-            Err(OrderFault::OutOfMemory) => return Err(NetFault::OutOfMemory),
-        };
-        let tasks = tasks_of(alloc, &net, order.signals().as_slice())?;
-        let numbers = numbers_of(alloc, &net, &colours)?;
-        Ok(Design {
-            net,
-            colours,
-            order,
-            tasks,
-            numbers,
-        })
+        net.is_net();
+        let colours = allowed_colours(alloc, &net, allow)?;
+        let order = order_of(alloc, &net)?;
+        match tables_of(alloc, &net, &colours, &order) {
+            Ok(tables) => Ok(Design {
+                net,
+                colours,
+                order,
+                tables,
+            }),
+            Err(OutOfMemory) => Err(NetFault::OutOfMemory),
+        }
+    }
+
+    /// Net, colours and order agree. The call does nothing, and its caller has that fact.
+    pub fn is_designed(&self)
+        ensures { IsDesigned self.now }
+    {
+        // The invariant is known where a field has been read.
+        let _read = self.tables.numbers.oracle_count;
     }
 
     /// Lends the net.
@@ -99,31 +105,32 @@ impl Design {
     pub fn tasks(&self) -> &[Task]
         ensures { AreTasks self.now.net self.now.order result.now }
     {
-        self.tasks.as_slice()
+        self.tables.tasks.as_slice()
     }
 
     /// For each primitive, how many sources and sinks stand below it: the place of its choice in a row.
     pub fn oracles(&self) -> &[u32]
         ensures { IsOracles self.now.net.prims result.now }
     {
-        self.numbers.oracles.as_slice()
+        self.tables.numbers.oracles.as_slice()
     }
 
     /// How many sources and sinks there are: the length of a row of choices.
     pub fn oracle_count(&self) -> u32
         ensures { result ≡ oracles_below self.now.net.prims (length self.now.net.prims) }
     {
-        self.numbers.choices
+        self.tables.numbers.oracle_count
     }
 
-    /// The number of the pair of queue `q` and colour `d` of its output, among all queue pairs.
-    pub fn queue_pair(&self, q: u32, d: u8) -> u32
-        requires { IsQueuePair self.now q d }
-        ensures { slice_get (queue_pairs (colours_at self.now.colours) 0 self.now.net.prims) result ≡ Some (q, d) }
+    /// The number of the pair of a queue and a colour of its output, among all queue pairs.
+    pub fn queue_pair(&self, queue: u32, colour: u8) -> u32
+        requires { IsQueuePair self.now queue colour }
+        ensures { slice_get (queue_pairs (colours_at self.now.colours) 0 self.now.net.prims) result ≡ Some (queue, colour) }
     {
-        match self.net.prim(q) {
+        match self.net.prim(queue) {
             Prim::Queue { out, .. } => {
-                self.numbers.pairs.as_slice()[q as usize] + self.colours.place(*out, d)
+                self.tables.numbers.pairs.as_slice()[queue as usize]
+                    + self.colours.place(*out, colour)
             }
             _ => 0,
         }

@@ -1,5 +1,8 @@
 //! Why a net is no design.
 
+ghost use Rattle.std.specs.Prelude.{◌≡◌};
+ghost use Rattle.xm_design.specs.declared.fault.NetFault.TheVariants as faults;
+
 use xm_colours::ColourFault;
 use xm_model::{List, OutOfMemory};
 use xm_order::Signal;
@@ -14,9 +17,6 @@ pub enum NetFault {
 }
 
 impl From<OutOfMemory> for NetFault {
-    ghost use Rattle.std.specs.Prelude.{◌≡◌};
-    ghost use Rattle.xm_design.specs.declared.fault.NetFault.TheVariants as faults;
-
     ghost from_gives = { λ _ fault. fault ≡ faults.OutOfMemory };
 
     fn from(_: OutOfMemory) -> NetFault {
@@ -25,9 +25,6 @@ impl From<OutOfMemory> for NetFault {
 }
 
 impl From<ColourFault> for NetFault {
-    ghost use Rattle.std.specs.Prelude.{◌≡◌};
-    ghost use Rattle.xm_design.specs.declared.fault.NetFault.TheVariants as faults;
-
     ghost from_gives = { λ refused fault. fault ≡ faults.Allow refused };
 
     fn from(refused: ColourFault) -> NetFault {

@@ -5,7 +5,8 @@ ghost use Rattle.xm_colours.specs.Family.{colours_at};
 ghost use Rattle.xm_colours.specs.Pairs.{queue_pairs_at};
 ghost use Rattle.xm_design.specs.Numbers.{ArePairsBelow, IsOracles};
 ghost use Rattle.xm_model.specs.Component.{component_of};
-ghost use Rattle.xm_model.specs.Lists.{is_oracle, oracles_below};
+ghost use Rattle.xm_model.specs.Views.{is_oracle, oracles_below};
+ghost use Rattle.xm_model.specs.Limits.{most_colours};
 
 use std::alloc::Global;
 use xm_colours::Colours;
@@ -17,11 +18,11 @@ use xm_model::{List, Net, OutOfMemory, Prim};
 pub struct Numbers {
     pub oracles: List<u32>,
     pub pairs: List<u32>,
-    pub choices: u32,
+    pub oracle_count: u32,
 }
 
-/// How many choices a primitive has in a cycle.
-fn choices(prim: &Prim) -> u32
+/// 1 for a source or a sink, which has a choice in each cycle, and 0 for all else.
+fn oracle_count(prim: &Prim) -> u32
     ensures { result ≡ cond (is_oracle (component_of prim.now)) 1 0 }
 {
     match prim {
@@ -33,7 +34,7 @@ fn choices(prim: &Prim) -> u32
 /// How many queue pairs it has.
 fn queue_pairs(prim: &Prim, colours: &Colours) -> u32
     ensures number { result ≡ length (queue_pairs_at (colours_at colours.now) 0 (component_of prim.now)) }
-    ensures few { result ≤ 64 }
+    ensures few { result ≤ most_colours }
 {
     match prim {
         Prim::Queue { out, .. } => colours.count(*out),
@@ -44,24 +45,24 @@ fn queue_pairs(prim: &Prim, colours: &Colours) -> u32
 /// The numbers of a net with these colours.
 pub fn numbers_of(alloc: Global, net: &Net, colours: &Colours) -> Result<Numbers, OutOfMemory>
     ensures oracles { IfOk result (λ numbers. IsOracles net.now.prims numbers.oracles.items) }
-    ensures choices { IfOk result (λ numbers. numbers.choices ≡ oracles_below net.now.prims (length net.now.prims)) }
+    ensures count { IfOk result (λ numbers. numbers.oracle_count ≡ oracles_below net.now.prims (length net.now.prims)) }
     ensures pairs { IfOk result (λ numbers. ArePairsBelow (colours_at colours.now) net.now.prims numbers.pairs.items) }
 {
     let prims = net.prims().as_slice();
     let mut oracles = List::new(alloc);
     let mut pairs = List::new(alloc);
-    let mut choices_below = 0;
+    let mut oracles_below = 0;
     let mut pairs_below = 0;
     for p in 0..prims.len() {
         let prim = &prims[p];
-        oracles.push(choices_below)?;
+        oracles.push(oracles_below)?;
         pairs.push(pairs_below)?;
-        choices_below += choices(prim);
+        oracles_below += oracle_count(prim);
         pairs_below += queue_pairs(prim, colours);
     }
     Ok(Numbers {
         oracles,
         pairs,
-        choices: choices_below,
+        oracle_count: oracles_below,
     })
 }

@@ -31,8 +31,7 @@ pub fn tasks_of(alloc: Global, net: &Net, order: &[Signal]) -> Result<List<Task>
     ensures { IfOk result (λ tasks. AreTasks net.now order.now tasks.items) }
 {
     let mut tasks = List::new(alloc);
-    for (k, signal) in order.iter().enumerate() {
-        let _place = k;
+    for signal in order {
         tasks.push(Task {
             signal: *signal,
             prim: maker_of(net, *signal),

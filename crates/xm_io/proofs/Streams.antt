@@ -3,7 +3,7 @@ use Rattle.std.proofs.Common.{◌≡◌, ℕ, ◌+◌, ◌-◌, ◌<◌, ◌≤�
 use Rattle.std.specs.Io.KnownBytes.{Appends, Consumes}
 use Rattle.std.proofs.lemmas.List.{take_all, take_at, drop-drop, take-append-drop, length-take-le, length-drop, drop_all}
 use Rattle.std.proofs.Math.Seq.{take-add}
-use Rattle.xm_io.specs.Appending.{Appends-then}
+use Rattle.xm_io.specs.Lemmas.Appending.{Appends-then}
 
 pub Consumes-then : (a b c : Option (List ℕ)) (x y : List ℕ) → Consumes a b x → Consumes b c y → Consumes a c (x ++ y)
 Consumes-then None b c x y p q = tt

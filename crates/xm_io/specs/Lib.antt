@@ -1,4 +1,4 @@
-pub mod Appending
 pub mod Bytes
 pub mod Faults
+pub mod Lemmas
 pub mod Memory

@@ -2,16 +2,16 @@
 use Rattle.std.proofs.Common.{◌≡◌, ℕ, zero, suc, ◌<◌, Bool, true, false, Option, Some, None, List, [], ◌∷◌, slice_get, refl, subst, arith}
 use Rattle.xm_model.specs.Component.{Component, Content, Merge, Packets, Queue, Sink, Source}
 use Rattle.xm_model.specs.Frame.{Equation, IsFrame}
-use Rattle.xm_model.specs.Lists.{choice_at, signals_of}
+use Rattle.xm_model.specs.Views.{choice_at, signals_of}
 use Rattle.xm_model.specs.Net.{IsWiredAt, Network}
 use Rattle.xm_model.specs.Next.{move, next, reset}
 use Rattle.xm_model.specs.Run.{IsRun, count, moves}
 use Rattle.xm_model.specs.Signals.{Signals}
-use Rattle.xm_model.specs.declared.parts.Choice.{Choice}
-use Rattle.xm_model.specs.declared.parts.Choice.TheVariants.{Offer, Ready}
-use Rattle.xm_model.specs.declared.parts.SinkMode.TheVariants as sink_mode
-use Rattle.xm_model.specs.declared.parts.SourceMode.TheVariants as source_mode
-use Rattle.xm_model.specs.declared.parts.Wire.{Wire}
+use Rattle.xm_model.specs.declared.state.Choice.{Choice}
+use Rattle.xm_model.specs.declared.state.Choice.TheVariants.{Offer, Ready}
+use Rattle.xm_model.specs.declared.primitive.SinkMode.TheVariants as sink_mode
+use Rattle.xm_model.specs.declared.primitive.SourceMode.TheVariants as source_mode
+use Rattle.xm_model.specs.declared.state.Wire.{Wire}
 
 -- the equations of these primitives, one after another
 abbrev Solved : List Component → (ℕ → Content) → (ℕ → Choice) → Signals → Type 0
@@ -141,6 +141,21 @@ merge_run = record { start = λ p. refl; frames = frames; steps = λ t p h. refl
 
 merge_moves : (move (merge_frames 2) 0 ≡ None) × (move (merge_frames 2) 1 ≡ Some 1) × (move (merge_frames 2) 2 ≡ Some 1) × (move (merge_frames 3) 0 ≡ Some 0) × (move (merge_frames 3) 1 ≡ None) × (move (merge_frames 3) 2 ≡ Some 0)
 merge_moves = (refl, refl, refl, refl, refl, refl)
+
+-- both sides offer in the first cycle: the merge begins with side a, and then they take turns
+abbrev merge_turns : ℕ → Signals
+merge_turns zero = signals_of (wire (Some 0) true ∷ wire (Some 1) false ∷ wire (Some 0) true ∷ [])
+merge_turns (suc t) = signals_of (wire (Some 0) false ∷ wire (Some 1) true ∷ wire (Some 1) true ∷ [])
+
+abbrev merge_both : ℕ → List Choice
+merge_both t = Offer (Some 0) ∷ Offer (Some 1) ∷ Ready true ∷ []
+
+merge_run_of_both : IsRun merge_net 2 (chosen merge_net merge_both) (states merge_net merge_turns) merge_turns
+merge_run_of_both = record { start = λ p. refl; frames = frames; steps = λ t p h. refl } where
+  frames : (t : ℕ) → t < 2 → IsFrame merge_net (states merge_net merge_turns t) (chosen merge_net merge_both t) (merge_turns t)
+  frames zero h = solved merge_net.prims _ _ _ (record { offer_out = refl }, (record { offer_out = refl }, (record { offer_out = refl; ready_a = refl; ready_b = refl }, (record { ready_in = refl }, tt))))
+  frames (suc zero) h = solved merge_net.prims _ _ _ (record { offer_out = refl }, (record { offer_out = refl }, (record { offer_out = refl; ready_a = refl; ready_b = refl }, (record { ready_in = refl }, tt))))
+  frames (suc (suc t)) h = absurd (omega arith)
 
 -- a queue that begins with a packet
 abbrev begun_net : Network

@@ -1,7 +1,7 @@
 //! A list over std's `Vec` whose contracts tell its items and its room.
 
 ghost use Rattle.std.specs.Borrow.{sem};
-ghost use Rattle.std.specs.Prelude.{◌≡◌, ◌+◌, ◌<◌, ◌≤◌, [], ◌∷◌, ◌++◌, ◌↔◌, length, take, remove, slice_get, IsTrue, IsOk, OnOk, OnErr};
+ghost use Rattle.std.specs.Prelude.{◌≡◌, ◌+◌, ◌<◌, ◌≤◌, [], ◌∷◌, ◌++◌, ◌↔◌, length, take, remove, replicate, slice_get, IsTrue, IsOk, IfOk, OnOk, OnErr};
 
 use crate::memory::OutOfMemory;
 use std::alloc::Global;
@@ -14,11 +14,11 @@ pub struct List<T> {
 }
 
 impl<T> Model for List<T> {
-    ghost use Rattle.xm_model.specs.Listing.{Listing, listing_code};
+    ghost use Rattle.xm_model.specs.ListView.{ListView, list_view_code};
 
-    ghost Value = { Listing T };
+    ghost Value = { ListView T };
 
-    ghost coded = { listing_code T.code };
+    ghost coded = { list_view_code T.code };
 
     ghost use Rattle.std.specs.Vec.{vec_capacity};
 
@@ -81,40 +81,51 @@ impl<T> List<T> {
         Ok(())
     }
 
-    /// Takes out item `i`, counted from 0; the later items close up, and the room stays.
-    pub fn remove(&mut self, i: u32) -> T
-        requires { i < length self.old.items }
-        ensures item { slice_get self.old.items i ≡ Some result }
-        ensures items { self.new.items ≡ remove self.old.items i }
+    /// Takes out the item at this place, counted from 0; the later items close up, and the room stays.
+    pub fn remove(&mut self, place: u32) -> T
+        requires { place < length self.old.items }
+        ensures item { slice_get self.old.items place ≡ Some result }
+        ensures items { self.new.items ≡ remove self.old.items place }
         ensures room { self.new.room ≡ self.old.room }
     {
-        self.held.remove(i as usize)
+        self.held.remove(place as usize)
     }
 }
 
 impl<T: Drop> List<T> {
-    /// Appends `x`, in time that does not grow with the list but for a growth of the room. Within the
-    /// room it succeeds and takes no memory. On refusal `x` is dropped, and the list and its room stay.
-    pub fn push(&mut self, x: T) -> Result<(), OutOfMemory>
-        ensures ok { OnOk result (self.new.items ≡ self.old.items ++ x ∷ []) }
+    /// Appends the item, in time that does not grow with the list but for a growth of the room. Within the
+    /// room it succeeds and takes no memory. On refusal the item is dropped, and the list and its room stay.
+    pub fn push(&mut self, item: T) -> Result<(), OutOfMemory>
+        ensures ok { OnOk result (self.new.items ≡ self.old.items ++ item ∷ []) }
         ensures err { OnErr result (self.new ≡ self.old) }
         ensures grows { self.old.room ≤ self.new.room }
         ensures within { length self.old.items < self.old.room → IsOk result × (self.new.room ≡ self.old.room) }
     {
         if self.held.len() < self.held.capacity() {
-            self.held.push_reserved(x);
+            self.held.push_reserved(item);
             return Ok(());
         }
         self.held.reserve(1)?;
-        self.held.push_reserved(x);
+        self.held.push_reserved(item);
         Ok(())
     }
 
-    /// Keeps the first `n` items, or all where there are fewer. The room stays.
-    pub fn truncate(&mut self, n: u32)
-        ensures items { self.new.items ≡ take n self.old.items }
+    /// Keeps the first `count` items, or all where there are fewer. The room stays.
+    pub fn truncate(&mut self, count: u32)
+        ensures items { self.new.items ≡ take count self.old.items }
         ensures room { self.new.room ≡ self.old.room }
     {
-        self.held.truncate(n as usize);
+        self.held.truncate(count as usize);
+    }
+}
+
+impl<T: Copy> List<T> {
+    /// A list of `count` items, each equal to `value`.
+    pub fn filled(alloc: Global, value: T, count: u32) -> Result<List<T>, OutOfMemory>
+        ensures { IfOk result (λ list. list.items ≡ replicate count value) }
+    {
+        let mut held = Vec::new(alloc);
+        held.resize(count as usize, value)?;
+        Ok(List { held })
     }
 }

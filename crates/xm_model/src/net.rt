@@ -4,17 +4,19 @@ ghost use Rattle.std.specs.Prelude.{◌≡◌, ℕ, ◌+◌, ◌<◌, ◌≤◌,
 ghost use Rattle.std.specs.Option.{option_to_list};
 ghost use Rattle.xm_model.specs.Component.{component_of};
 ghost use Rattle.xm_model.specs.Net.{inputs, outputs, ports, initiators, targets, IsWellWired, IsFirstFault};
-ghost use Rattle.xm_model.specs.Seen.{IsFirstSeenFault, IsSeen, fault_seen, ports_by, seen_fault, with_end};
+ghost use Rattle.xm_model.specs.Limits.{most_channels, most_primitives};
+ghost use Rattle.xm_model.specs.Inner.FirstTwo.{IsFirstCountedFault, AreFirstTwo, counted_fault_at, ports_by, counted_fault, with_end};
 
+use crate::fault::{NewFault, WiringFault};
 use crate::list::List;
 use crate::memory::OutOfMemory;
-use crate::parts::{NewFault, Prim, WiringFault};
+use crate::primitive::Prim;
 use std::alloc::Global;
 use std::marker::Model;
 
 /// The first two primitives that were met at a channel.
 #[derive(Clone, Copy)]
-pub struct Seen {
+pub struct FirstTwo {
     first: Option<u32>,
     second: Option<u32>,
 }
@@ -52,15 +54,15 @@ fn inputs_of(prim: &Prim) -> (Option<u32>, Option<u32>)
 }
 
 /// The same with one more primitive.
-fn with_one_more(it: Seen, p: u32) -> Seen
+fn with_one_more(it: FirstTwo, p: u32) -> FirstTwo
     ensures { result ≡ with_end it p }
 {
     match (it.first, it.second) {
-        (None, second) => Seen {
+        (None, second) => FirstTwo {
             first: Some(p),
             second,
         },
-        (Some(x), None) => Seen {
+        (Some(x), None) => FirstTwo {
             first: Some(x),
             second: Some(p),
         },
@@ -68,36 +70,38 @@ fn with_one_more(it: Seen, p: u32) -> Seen
     }
 }
 
-fn note(seen: &mut [Seen], c: u32, p: u32)
-    requires { c < length seen.old }
-    ensures { (es : Items (ℕ × ℕ)) → IsSeen es seen.old → IsSeen (es ++ (c, p) ∷ []) seen.new }
+fn note(met: &mut [FirstTwo], c: u32, p: u32)
+    requires { c < length met.old }
+    ensures { (es : Items (ℕ × ℕ)) → AreFirstTwo es met.old → AreFirstTwo (es ++ (c, p) ∷ []) met.new }
 {
-    seen[c as usize] = with_one_more(seen[c as usize], p);
+    met[c as usize] = with_one_more(met[c as usize], p);
 }
 
-fn note_if(seen: &mut [Seen], c: Option<u32>, p: u32)
-    requires { All (λ c. c < length seen.old) (option_to_list c) }
-    ensures { (es : Items (ℕ × ℕ)) → IsSeen es seen.old → IsSeen (es ++ map (λ c. (c, p)) (option_to_list c)) seen.new }
+fn note_if(met: &mut [FirstTwo], c: Option<u32>, p: u32)
+    requires { All (λ c. c < length met.old) (option_to_list c) }
+    ensures { (es : Items (ℕ × ℕ)) → AreFirstTwo es met.old
+        → AreFirstTwo (es ++ map (λ c. (c, p)) (option_to_list c)) met.new }
 {
     if let Some(c) = c {
-        note(seen, c, p);
+        note(met, c, p);
     }
 }
 
 /// Notes the ports of primitive `p`.
-fn note_ports(seen: &mut [Seen], prim: &Prim, p: u32, outgoing: bool)
-    requires { All (λ c. c < length seen.old) (ports_by outgoing (component_of prim.now)) }
-    ensures { (es : Items (ℕ × ℕ)) → IsSeen es seen.old → IsSeen (es ++ map (λ c. (c, p)) (ports_by outgoing (component_of prim.now))) seen.new }
+fn note_ports(met: &mut [FirstTwo], prim: &Prim, p: u32, is_output: bool)
+    requires { All (λ c. c < length met.old) (ports_by is_output (component_of prim.now)) }
+    ensures { (es : Items (ℕ × ℕ)) → AreFirstTwo es met.old
+        → AreFirstTwo (es ++ map (λ c. (c, p)) (ports_by is_output (component_of prim.now))) met.new }
 {
-    let (first, second) = ports_of(prim, outgoing);
-    note_if(seen, first, p);
-    note_if(seen, second, p);
+    let (first, second) = ports_of(prim, is_output);
+    note_if(met, first, p);
+    note_if(met, second, p);
 }
 
-fn ports_of(prim: &Prim, outgoing: bool) -> (Option<u32>, Option<u32>)
-    ensures { ports_by outgoing (component_of prim.now) ≡ option_to_list result.0 ++ option_to_list result.1 }
+fn ports_of(prim: &Prim, is_output: bool) -> (Option<u32>, Option<u32>)
+    ensures { ports_by is_output (component_of prim.now) ≡ option_to_list result.0 ++ option_to_list result.1 }
 {
-    if outgoing {
+    if is_output {
         outputs_of(prim)
     } else {
         inputs_of(prim)
@@ -105,20 +109,20 @@ fn ports_of(prim: &Prim, outgoing: bool) -> (Option<u32>, Option<u32>)
 }
 
 /// Meets each port.
-fn count(seen: &mut [Seen], prims: &[Prim], outgoing: bool)
-    requires few { length prims.now ≤ 4096 }
-    requires fit { All (λ m. All (λ c. c < length seen.old) (ports_by outgoing m)) (map component_of prims.now) }
-    requires fresh { IsSeen [] seen.old }
-    ensures { IsSeen (ports (ports_by outgoing) (map component_of prims.now) 0) seen.new }
+fn count(met: &mut [FirstTwo], prims: &[Prim], is_output: bool)
+    requires few { length prims.now ≤ most_primitives }
+    requires fit { All (λ m. All (λ c. c < length met.old) (ports_by is_output m)) (map component_of prims.now) }
+    requires fresh { AreFirstTwo [] met.old }
+    ensures { AreFirstTwo (ports (ports_by is_output) (map component_of prims.now) 0) met.new }
 {
     for (p, prim) in prims.iter().enumerate() {
-        note_ports(seen, prim, p as u32, outgoing);
+        note_ports(met, prim, p as u32, is_output);
     }
 }
 
 /// The first fault at channel `c`.
-fn fault_of(c: u32, initiator: &Seen, target: &Seen) -> Option<WiringFault>
-    ensures { result ≡ seen_fault c initiator.now target.now }
+fn fault_of(c: u32, initiator: &FirstTwo, target: &FirstTwo) -> Option<WiringFault>
+    ensures { result ≡ counted_fault c initiator.now target.now }
 {
     match (initiator.first, initiator.second) {
         (None, _) => Some(WiringFault::NoInitiator(c)),
@@ -131,15 +135,16 @@ fn fault_of(c: u32, initiator: &Seen, target: &Seen) -> Option<WiringFault>
     }
 }
 
-/// The first fault of two counts.
-fn first_fault(starts: &[Seen], ends: &[Seen]) -> Option<WiringFault>
-    requires few { length starts.now ≤ 8192 }
-    requires same { length ends.now ≡ length starts.now }
-    ensures none { IfNone result ((c : ℕ) → c < length starts.now → fault_seen starts.now ends.now c ≡ None) }
-    ensures first { IfSome result (IsFirstSeenFault starts.now ends.now) }
+/// The fault of the first channel that has one.
+fn first_fault(by_outputs: &[FirstTwo], by_inputs: &[FirstTwo]) -> Option<WiringFault>
+    requires few { length by_outputs.now ≤ most_channels }
+    requires same { length by_inputs.now ≡ length by_outputs.now }
+    ensures none { IfNone result ((c : ℕ) → c < length by_outputs.now
+        → counted_fault_at by_outputs.now by_inputs.now c ≡ None) }
+    ensures first { IfSome result (IsFirstCountedFault by_outputs.now by_inputs.now) }
 {
-    for c in 0..starts.len() {
-        let fault = fault_of(c as u32, &starts[c], &ends[c]);
+    for c in 0..by_outputs.len() {
+        let fault = fault_of(c as u32, &by_outputs[c], &by_inputs[c]);
         if fault.is_some() {
             return fault;
         }
@@ -147,38 +152,33 @@ fn first_fault(starts: &[Seen], ends: &[Seen]) -> Option<WiringFault>
     None
 }
 
-/// A count of `n` channels that has met no port.
-fn unseen(alloc: Global, n: u32) -> Result<List<Seen>, OutOfMemory>
-    ensures len { IfOk result (λ l. length l.items ≡ n) }
-    ensures fresh { IfOk result (λ l. IsSeen [] l.items) }
+/// No primitive was met at any channel.
+fn none_met(alloc: Global, channels: u32) -> Result<List<FirstTwo>, OutOfMemory>
+    ensures len { IfOk result (λ l. length l.items ≡ channels) }
+    ensures fresh { IfOk result (λ l. AreFirstTwo [] l.items) }
 {
-    let mut all = List::new(alloc);
-    all.reserve(n)?;
-    for k in 0..n {
-        let _count = k;
-        all.push(Seen {
-            first: None,
-            second: None,
-        })?;
-    }
-    Ok(all)
+    let none = FirstTwo {
+        first: None,
+        second: None,
+    };
+    List::filled(alloc, none, channels)
 }
 
-/// The count of all output ports, or of all input ports.
-fn counted(
+/// The first two primitives at each channel, by the output ports or by the input ports.
+fn first_two_of(
     alloc: Global,
     channels: u32,
     prims: &[Prim],
-    outgoing: bool,
-) -> Result<List<Seen>, OutOfMemory>
-    requires few { length prims.now ≤ 4096 }
-    requires fit { All (λ m. All (λ c. c < channels) (ports_by outgoing m)) (map component_of prims.now) }
+    is_output: bool,
+) -> Result<List<FirstTwo>, OutOfMemory>
+    requires few { length prims.now ≤ most_primitives }
+    requires fit { All (λ m. All (λ c. c < channels) (ports_by is_output m)) (map component_of prims.now) }
     ensures len { IfOk result (λ l. length l.items ≡ channels) }
-    ensures seen { IfOk result (λ l. IsSeen (ports (ports_by outgoing) (map component_of prims.now) 0) l.items) }
+    ensures met { IfOk result (λ l. AreFirstTwo (ports (ports_by is_output) (map component_of prims.now) 0) l.items) }
 {
-    let mut seen = unseen(alloc, channels)?;
-    count(seen.as_mut_slice(), prims, outgoing);
-    Ok(seen)
+    let mut met = none_met(alloc, channels)?;
+    count(met.as_mut_slice(), prims, is_output);
+    Ok(met)
 }
 
 /// A net whose sizes keep their limits and whose channels each have one initiator and one target
@@ -188,8 +188,8 @@ pub struct Net {
     prims: List<Prim>,
     channels: u32,
     colours: u32,
-    starts: List<Seen>,
-    ends: List<Seen>,
+    by_outputs: List<FirstTwo>,
+    by_inputs: List<FirstTwo>,
 }
 
 impl Model for Net {
@@ -198,17 +198,18 @@ impl Model for Net {
     ghost Value = { Network };
 
     ghost use Rattle.xm_model.specs.Net.{network_of};
-    ghost use Rattle.xm_model.specs.Kept.{IsKept};
+    ghost use Rattle.xm_model.specs.Inner.Kept.{IsKept};
 
     ghost view = { λ n. network_of n.prims.items n.channels n.colours };
 
-    ghost invariant = { λ n. IsKept (network_of n.prims.items n.channels n.colours) n.starts.items n.ends.items };
+    ghost invariant = { λ n. IsKept (network_of n.prims.items n.channels n.colours)
+        n.by_outputs.items n.by_inputs.items };
 }
 
 impl Net {
     ghost use Rattle.std.specs.Prelude.{◌≡◌, ◌<◌, ◌∷◌, [], IfOk, slice_get, length};
     ghost use Rattle.xm_model.specs.Net.{IsNet, IsWellWired, IsFirstFault, IsWithinLimits, initiators, targets, network_of};
-    ghost use Rattle.xm_model.specs.Ports.{IsDriver, IsTaker};
+    ghost use Rattle.xm_model.specs.Ports.{IsInitiator, IsTarget};
     ghost use Rattle.xm_model.specs.Component.{component_of};
 
     /// The net of these primitives, or the fault of the first channel that is not the output of exactly
@@ -223,18 +224,19 @@ impl Net {
         requires { IsWithinLimits (network_of prims.items channels colours) }
         ensures ok { IfOk result (λ net. net ≡ network_of prims.items channels colours) }
         ensures net { IfOk result IsNet }
-        ensures wiring { (fault : _) → result ≡ Err (NewFault.Wiring fault) → IsFirstFault (network_of prims.items channels colours) fault }
+        ensures wiring { (fault : _) → result ≡ Err (NewFault.Wiring fault)
+            → IsFirstFault (network_of prims.items channels colours) fault }
     {
-        let starts = counted(alloc, channels, prims.as_slice(), true)?;
-        let ends = counted(alloc, channels, prims.as_slice(), false)?;
-        match first_fault(starts.as_slice(), ends.as_slice()) {
+        let by_outputs = first_two_of(alloc, channels, prims.as_slice(), true)?;
+        let by_inputs = first_two_of(alloc, channels, prims.as_slice(), false)?;
+        match first_fault(by_outputs.as_slice(), by_inputs.as_slice()) {
             Some(fault) => Err(NewFault::Wiring(fault)),
             None => Ok(Net {
                 prims,
                 channels,
                 colours,
-                starts,
-                ends,
+                by_outputs,
+                by_inputs,
             }),
         }
     }
@@ -247,12 +249,20 @@ impl Net {
         &self.prims
     }
 
-    /// Lends primitive number `p`.
-    pub fn prim(&self, p: u32) -> &Prim
-        requires { p < length self.now.prims }
-        ensures { slice_get self.now.prims p ≡ Some (component_of result.now) }
+    /// Lends the primitive with this number.
+    pub fn prim(&self, number: u32) -> &Prim
+        requires { number < length self.now.prims }
+        ensures { slice_get self.now.prims number ≡ Some (component_of result.now) }
     {
-        &self.prims.as_slice()[p as usize]
+        &self.prims.as_slice()[number as usize]
+    }
+
+    /// A net keeps its limits and is well wired. The call does nothing, and its caller has that fact.
+    pub fn is_net(&self)
+        ensures { IsNet self.now }
+    {
+        // The invariant is known where a field has been read.
+        let _read = self.channels;
     }
 
     /// How many channels there are; they are numbered from 0.
@@ -270,23 +280,27 @@ impl Net {
         self.colours
     }
 
-    /// The primitive that offers on channel `c`.
-    pub fn initiator(&self, c: u32) -> u32
-        requires { c < self.now.channels }
-        ensures only { initiators self.now.prims c ≡ result ∷ [] }
+    /// The primitive that offers on the channel.
+    pub fn initiator(&self, channel: u32) -> u32
+        requires { channel < self.now.channels }
+        ensures only { initiators self.now.prims channel ≡ result ∷ [] }
         ensures within { result < length self.now.prims }
-        ensures drives { IsDriver self.now result c }
+        ensures initiator { IsInitiator self.now result channel }
     {
-        self.starts.as_slice()[c as usize].first.unwrap_or(0)
+        self.by_outputs.as_slice()[channel as usize]
+            .first
+            .unwrap_or(0)
     }
 
-    /// The primitive that accepts from channel `c`.
-    pub fn target(&self, c: u32) -> u32
-        requires { c < self.now.channels }
-        ensures only { targets self.now.prims c ≡ result ∷ [] }
+    /// The primitive that accepts from the channel.
+    pub fn target(&self, channel: u32) -> u32
+        requires { channel < self.now.channels }
+        ensures only { targets self.now.prims channel ≡ result ∷ [] }
         ensures within { result < length self.now.prims }
-        ensures takes { IsTaker self.now result c }
+        ensures target { IsTarget self.now result channel }
     {
-        self.ends.as_slice()[c as usize].first.unwrap_or(0)
+        self.by_inputs.as_slice()[channel as usize]
+            .first
+            .unwrap_or(0)
     }
 }

@@ -1,6 +1,6 @@
 //! Bytes of text, appended piece by piece.
 
-ghost use Rattle.std.specs.Prelude.{◌≡◌, [], ◌++◌, OnOk, OnErr};
+ghost use Rattle.std.specs.Prelude.{◌≡◌, ◌+◌, ◌≤◌, [], ◌++◌, length, IfOk, IsOk, OnOk, OnErr};
 ghost use Rattle.std.specs.Fmt.{signed_decimal};
 
 use crate::memory::OutOfMemory;
@@ -16,11 +16,11 @@ pub struct Text {
 impl Model for Text {
     ghost use Rattle.std.specs.Prelude.{ℕ};
     ghost use Rattle.std.specs.Coded.{coded_ℕ};
-    ghost use Rattle.xm_model.specs.Listing.{Listing, listing_code};
+    ghost use Rattle.xm_model.specs.ListView.{ListView, list_view_code};
 
-    ghost Value = { Listing ℕ };
+    ghost Value = { ListView ℕ };
 
-    ghost coded = { listing_code coded_ℕ };
+    ghost coded = { list_view_code coded_ℕ };
 
     ghost use Rattle.std.specs.Vec.{vec_capacity};
 
@@ -38,6 +38,15 @@ impl Text {
         }
     }
 
+    /// A text of these bytes.
+    pub fn from_bytes(alloc: Global, bytes: &[u8]) -> Result<Text, OutOfMemory>
+        ensures { IfOk result (λ text. text.items ≡ bytes.now) }
+    {
+        let mut text = Text::new(alloc);
+        text.push_bytes(bytes)?;
+        Ok(text)
+    }
+
     /// Lends the bytes.
     pub fn as_bytes(&self) -> &[u8]
         ensures { result.now ≡ self.now.items }
@@ -45,23 +54,26 @@ impl Text {
         self.bytes.as_slice()
     }
 
-    /// Appends the bytes. On refusal the text stays.
-    pub fn push_bytes(&mut self, b: &[u8]) -> Result<(), OutOfMemory>
-        ensures ok { OnOk result (self.new.items ≡ self.old.items ++ b.now) }
-        ensures err { OnErr result (self.new.items ≡ self.old.items) }
+    /// Appends the bytes. Within the room it succeeds. On refusal the text and its room stay.
+    pub fn push_bytes(&mut self, bytes: &[u8]) -> Result<(), OutOfMemory>
+        ensures ok { OnOk result (self.new.items ≡ self.old.items ++ bytes.now) }
+        ensures err { OnErr result (self.new ≡ self.old) }
+        ensures grows { self.old.room ≤ self.new.room }
+        ensures within { length self.old.items + length bytes.now ≤ self.old.room → IsOk result }
     {
-        self.bytes.extend_from_slice(b)?;
+        self.bytes.reserve(bytes.len())?;
+        self.bytes.extend_from_slice(bytes)?;
         Ok(())
     }
 
     /// Appends the decimal text of `v`: digits without leading zeros, and `-` first where `v` is
-    /// negative. On refusal the text stays.
-    pub fn push_number(&mut self, v: i128) -> Result<(), OutOfMemory>
-        ensures ok { OnOk result (self.new.items ≡ self.old.items ++ signed_decimal v) }
-        ensures err { OnErr result (self.new.items ≡ self.old.items) }
+    /// negative. On refusal the text and its room stay.
+    pub fn push_number(&mut self, number: i128) -> Result<(), OutOfMemory>
+        ensures ok { OnOk result (self.new.items ≡ self.old.items ++ signed_decimal number) }
+        ensures err { OnErr result (self.new ≡ self.old) }
+        ensures grows { self.old.room ≤ self.new.room }
     {
-        let digits = v.to_string(*self.bytes.allocator())?;
-        self.bytes.extend_from_slice(digits.as_bytes())?;
-        Ok(())
+        let digits = number.to_string(*self.bytes.allocator())?;
+        self.push_bytes(digits.as_bytes())
     }
 }

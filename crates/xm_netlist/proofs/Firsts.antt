@@ -7,10 +7,10 @@ use Rattle.std.proofs.lemmas.Bool.{and_from, and_parts, cases_lt, eq-eqb, ne_eqb
 use Rattle.std.proofs.lemmas.List.{map-append}
 use Rattle.std.proofs.lemmas.List.Folds.{list_all-append, list_any-append}
 use Rattle.std.proofs.lemmas.Slice.Eq.{bytes_eq-Decides}
-use Rattle.xm_shape.specs.Draft.{Part, channels_of}
-use Rattle.xm_shape.specs.Equal.{same_bytes, same_names, swapped}
+use Rattle.xm_shape.specs.NamedNet.{NamedPrimitive, channels_of}
+use Rattle.xm_shape.specs.Lemmas.Equal.{same_bytes, same_names, swapped}
 use Rattle.xm_shape.specs.Names.{Name, first_uses, is_among, number_in}
-use Rattle.xm_netlist.specs.Numbered.{numbers_below, part_numbered}
+use Rattle.xm_netlist.specs.Numbered.{numbers_below, primitive_numbered}
 use Rattle.xm_netlist.specs.Valid.{are_distinct, channel_uses, differ, first_numbers}
 use Rattle.xm_netlist.proofs.Limited.{ports_numbered}
 
@@ -79,10 +79,10 @@ numbers_from all seen (n ∷ ns) is_all =
 pub numbered_by_uses : (uses : List Name) → first_numbers [] (map (number_in (first_uses [] uses)) uses) ≡ numbers_below (length (first_uses [] uses))
 numbered_by_uses uses = numbers_from (first_uses [] uses) [] uses refl
 
-pub uses_numbered : (channels colours : List Name) (parts : List Part) → flat_map channel_uses (map (part_numbered channels colours) parts) ≡ map (number_in channels) (flat_map channels_of parts)
+pub uses_numbered : (channels colours : List Name) (primitives : List NamedPrimitive) → flat_map channel_uses (map (primitive_numbered channels colours) primitives) ≡ map (number_in channels) (flat_map channels_of primitives)
 uses_numbered channels colours [] = refl
-uses_numbered channels colours (part ∷ parts) =
-    rw (ports_numbered channels colours part.name part.form, uses_numbered channels colours parts) (sym (map-append (number_in channels) (channels_of part) (flat_map channels_of parts)))
+uses_numbered channels colours (primitive ∷ primitives) =
+    rw (ports_numbered channels colours primitive.name primitive.form, uses_numbered channels colours primitives) (sym (map-append (number_in channels) (channels_of primitive) (flat_map channels_of primitives)))
 
 -- ---- the names by their first uses
 

@@ -9,20 +9,22 @@ use Rattle.std.proofs.lemmas.List.Elements.{All-append, All-cons, All-head, All-
 use Rattle.std.proofs.lemmas.List.Folds.{list_any-append}
 use Rattle.std.proofs.lemmas.List.Sums.{sum_by-cons}
 use Rattle.std.proofs.lemmas.Slice.Eq.{bytes_eq-Decides}
+use Rattle.xm_json.specs.Lemmas.StepFacts.{checked}
 use Rattle.xm_model.specs.Net.{FitsComponent, IsColourMap, IsWithinLimits, capacity_of, inputs, outputs}
-use Rattle.xm_shape.specs.Draft.{Draft, Form, Part, Table, channel_names, channels_of, fork, function, join, merge, queue, sink, source, switch}
-use Rattle.xm_shape.specs.Equal.{same_bytes}
-use Rattle.xm_shape.specs.Fault.{member_of, place_of}
-use Rattle.xm_shape.specs.Holding.{each_holds}
+use Rattle.xm_model.specs.Limits.{most_capacities, most_capacity, most_channels, most_colours, most_primitives, most_source_colours}
+use Rattle.xm_shape.specs.NamedNet.{NamedNet, NamedKind, NamedPrimitive, Table, channel_names, channels_of, fork, function, join, merge, queue, sink, source, switch}
+use Rattle.xm_shape.specs.Lemmas.Equal.{same_bytes}
+use Rattle.xm_json.specs.Path.{member_of, place_of}
+use Rattle.xm_json.specs.Holding.{each_holds}
 use Rattle.xm_shape.specs.Names.{Name, first_uses, is_among, number_in}
 use Rattle.xm_shape.specs.Shape.{net}
 use Rattle.xm_shape.specs.declared.fault.Which.{Which}
 use Rattle.xm_shape.specs.declared.fault.Which.TheVariants as which
-use Rattle.xm_netlist.specs.Lengths.{length-marks_of, length-numbers_below, length-set_each}
-use Rattle.xm_netlist.specs.Numbered.{component_in, images_of, net_of, numbers_below, part_numbered, set_each}
-use Rattle.xm_netlist.specs.Tests.{all_known, capacity_in, capacity_sized, coloured, entry_coloured, form_capacity, form_coloured, initial_sized, known, limited, offered, offers_sized, packets_sized, part_coloured, room_sized, sized, source_sized, table_known}
+use Rattle.xm_netlist.specs.Lemmas.Lengths.{length-marks_of, length-numbers_below, length-set_each}
+use Rattle.xm_netlist.specs.Numbered.{component_in, images_of, net_of, numbers_below, primitive_numbered, set_each}
+use Rattle.xm_netlist.specs.Checks.{check_all_known, capacity_in, check_queue_size, check_colours, check_entry_colours, form_capacity, check_form_colours, check_queue_packets, check_known, check_sizes, check_offered, check_offers, check_packets, check_primitive_colours, check_room, check_size, check_source_size, check_table}
 use Rattle.xm_netlist.specs.Valid.{channel_uses}
-use Rattle.xm_netlist.proofs.Passing.{All-back, All-front, both, checked, held}
+use Rattle.xm_netlist.proofs.Passing.{All-back, All-front, both, held}
 
 -- ---- names that are among others
 
@@ -78,12 +80,12 @@ among_all f names (x ∷ xs) into =
     (among_all f names xs (λ n e. into n (among_append (f x) (flat_map f xs) n (or_right (is_among (f x) n) (is_among (flat_map f xs) n) e))))
 
 -- the channels of each primitive are among those of the draft
-pub all_used : (parts : List Part) → All (λ part. All (λ n. is_among (channel_names parts) n ≡ true) (channels_of part)) parts
-all_used parts = among_all channels_of (channel_names parts) parts (λ n e. used [] (flat_map channels_of parts) n e)
+pub all_used : (primitives : List NamedPrimitive) → All (λ primitive. All (λ n. is_among (channel_names primitives) n ≡ true) (channels_of primitive)) primitives
+all_used primitives = among_all channels_of (channel_names primitives) primitives (λ n e. used [] (flat_map channels_of primitives) n e)
 
 -- ---- ports
 
-pub ports_numbered : (channels colours : List Name) (name : Name) (form : Form)
+pub ports_numbered : (channels colours : List Name) (name : Name) (form : NamedKind)
     → channel_uses (component_in channels colours form) ≡ map (number_in channels) (channels_of (record { name = name; form = form }))
 ports_numbered channels colours name (source out ds mode) = refl
 ports_numbered channels colours name (sink input mode) = refl
@@ -94,11 +96,11 @@ ports_numbered channels colours name (join a b out pass) = refl
 ports_numbered channels colours name (switch input a b to_a) = refl
 ports_numbered channels colours name (merge a b out) = refl
 
-ports_within : (channels colours : List Name) (part : Part) → All (λ n. is_among channels n ≡ true) (channels_of part)
-    → All (λ c. c < length channels) (inputs (part_numbered channels colours part) ++ outputs (part_numbered channels colours part))
-ports_within channels colours part among =
-    rw (ports_numbered channels colours part.name part.form)
-    (All-map (λ c. c < length channels) (number_in channels) (channels_of part) (All-weaker (λ n. is_among channels n ≡ true) (λ n. number_in channels n < length channels) (λ n e. number_below channels n e) (channels_of part) among))
+ports_within : (channels colours : List Name) (primitive : NamedPrimitive) → All (λ n. is_among channels n ≡ true) (channels_of primitive)
+    → All (λ c. c < length channels) (inputs (primitive_numbered channels colours primitive) ++ outputs (primitive_numbered channels colours primitive))
+ports_within channels colours primitive among =
+    rw (ports_numbered channels colours primitive.name primitive.form)
+    (All-map (λ c. c < length channels) (number_in channels) (channels_of primitive) (All-weaker (λ n. is_among channels n ≡ true) (λ n. number_in channels n < length channels) (λ n e. number_below channels n e) (channels_of primitive) among))
 
 -- ---- colours
 
@@ -106,21 +108,21 @@ pub all_below : (colours names : List Name) → All (λ n. is_among colours n �
 all_below colours names among =
     All-map (λ d. d < length colours) (number_in colours) names (All-weaker (λ n. is_among colours n ≡ true) (λ n. number_in colours n < length colours) (λ n e. number_below colours n e) names among)
 
-pub are_known : (colours : List Name) (path : List ℕ) (names : List Name) → all_known colours path names ≡ Ok tt → All (λ n. is_among colours n ≡ true) names
+pub are_known : (colours : List Name) (path : List ℕ) (names : List Name) → check_all_known colours path names ≡ Ok tt → All (λ n. is_among colours n ≡ true) names
 are_known colours path names e = held _ (λ n. is_among colours n ≡ true) (λ i n k. checked (is_among colours n) _ k) 0 names e
 
-pub are_offered : (colours : List Name) (path : List ℕ) (ds names : List Name) → each_holds (offered colours path ds) names ≡ Ok tt → All (λ n. is_among colours n ≡ true) names
-are_offered colours path ds names e = held _ (λ n. is_among colours n ≡ true) (λ i n k. checked (is_among colours n) _ (both (known colours _ n) _ k).0) 0 names e
+pub are_offered : (colours : List Name) (path : List ℕ) (ds names : List Name) → each_holds (check_offered colours path ds) names ≡ Ok tt → All (λ n. is_among colours n ≡ true) names
+are_offered colours path ds names e = held _ (λ n. is_among colours n ≡ true) (λ i n k. checked (is_among colours n) _ (both (check_known colours _ n) _ k).0) 0 names e
 
 -- both colours of a member of a map are known
 abbrev pub IsKnown : List Name → Name × Name → Type 0
 IsKnown colours image = (is_among colours image.0 ≡ true) × (is_among colours image.1 ≡ true)
 
-pub are_mapped : (colours : List Name) (path : List ℕ) (table : Table) → table_known colours path table ≡ Ok tt → All (IsKnown colours) table
+pub are_mapped : (colours : List Name) (path : List ℕ) (table : Table) → check_table colours path table ≡ Ok tt → All (IsKnown colours) table
 are_mapped colours path [] e = All-nil (IsKnown colours)
 are_mapped colours path (image ∷ images) e =
-    let first = both (known colours path image.0) _ e in
-    let second = both (known colours (member_of path image.0) image.1) _ first.1 in
+    let first = both (check_known colours path image.0) _ e in
+    let second = both (check_known colours (member_of path image.0) image.1) _ first.1 in
     All-cons (IsKnown colours) image images (checked (is_among colours image.0) _ first.0, checked (is_among colours image.1) _ second.0) (are_mapped colours path images second.1)
 
 module _ {A X : Type 0} (place : A → ℕ) (value : A → X) where
@@ -145,43 +147,43 @@ is_colour_map colours table known_all = (
 
 -- ---- sizes
 
-pub within : (it : Which) (low high count : ℕ) → sized it low high count ≡ Ok tt → (low ≤ count) × (count ≤ high)
+pub within : (it : Which) (low high count : ℕ) → check_size it low high count ≡ Ok tt → (low ≤ count) × (count ≤ high)
 within it low high count e =
     let parts = and_parts (nat_le low count) (nat_le count high) (checked (nat_le low count && nat_le count high) _ e) in
     (leb-true low count parts.0, leb-true count high parts.1)
 
-pub small_room : (form : Form) → room_sized form ≡ Ok tt → form_capacity form ≤ 4096
+pub small_room : (form : NamedKind) → check_room form ≡ Ok tt → form_capacity form ≤ most_capacity
 small_room (source out ds mode) e = omega arith
 small_room (sink input mode) e = omega arith
-small_room (queue input out capacity initial) e = (within which.Capacity 1 4096 capacity e).1
+small_room (queue input out capacity initial) e = (within which.Capacity 1 most_capacity capacity e).1
 small_room (function input out table) e = omega arith
 small_room (fork input a b table_a table_b) e = omega arith
 small_room (join a b out pass) e = omega arith
 small_room (switch input a b to_a) e = omega arith
 small_room (merge a b out) e = omega arith
 
-pub all_small : (parts : List Part) → each_holds capacity_sized parts ≡ Ok tt → All (λ part. capacity_in part ≤ 4096) parts
-all_small parts e = held capacity_sized (λ (part : Part). capacity_in part ≤ 4096) (λ i part room. small_room part.form room) 0 parts e
+pub all_small : (primitives : List NamedPrimitive) → each_holds check_queue_size primitives ≡ Ok tt → All (λ primitive. capacity_in primitive ≤ most_capacity) primitives
+all_small primitives e = held check_queue_size (λ (primitive : NamedPrimitive). capacity_in primitive ≤ most_capacity) (λ i primitive room. small_room primitive.form room) 0 primitives e
 
-pub fits : (channels colours : List Name) (path : List ℕ) (form : Form) → form_coloured colours path form ≡ Ok tt → offers_sized form ≡ Ok tt → room_sized form ≡ Ok tt → packets_sized form ≡ Ok tt
+pub fits : (channels colours : List Name) (path : List ℕ) (form : NamedKind) → check_form_colours colours path form ≡ Ok tt → check_offers form ≡ Ok tt → check_room form ≡ Ok tt → check_packets form ≡ Ok tt
     → FitsComponent (length colours) (component_in channels colours form)
 fits channels colours path (source out ds mode) known_all offers room packets =
-    let few = within which.SourceColours 1 36 (length ds) offers in
+    let few = within which.SourceColours 1 most_source_colours (length ds) offers in
     (omega (arith, few.0, length-map ds (number_in colours)), omega (arith, few.1, length-map ds (number_in colours)), all_below colours ds (are_offered colours _ ds ds known_all))
 fits channels colours path (sink input mode) known_all offers room packets = tt
 fits channels colours path (queue input out capacity initial) known_all offers room packets =
-    let few = within which.Capacity 1 4096 capacity room in
+    let few = within which.Capacity 1 most_capacity capacity room in
     let first = within which.Initial 0 capacity (length initial) packets in
     (few.0, few.1, omega (arith, first.1, length-map initial (number_in colours)), all_below colours initial (are_known colours _ initial known_all))
 fits channels colours path (function input out table) known_all offers room packets = is_colour_map colours table (are_mapped colours _ table known_all)
 fits channels colours path (fork input a b table_a table_b) known_all offers room packets =
-    let two = both (table_known colours (member_of path (codes "map_a")) table_a) (table_known colours (member_of path (codes "map_b")) table_b) known_all in
+    let two = both (check_table colours (member_of path (codes "map_a")) table_a) (check_table colours (member_of path (codes "map_b")) table_b) known_all in
     (is_colour_map colours table_a (are_mapped colours _ table_a two.0), is_colour_map colours table_b (are_mapped colours _ table_b two.1))
 fits channels colours path (join a b out pass) known_all offers room packets = tt
 fits channels colours path (switch input a b to_a) known_all offers room packets = length-marks_of colours to_a
 fits channels colours path (merge a b out) known_all offers room packets = tt
 
-same_capacity : (channels colours : List Name) (form : Form) → capacity_of (component_in channels colours form) ≡ form_capacity form
+same_capacity : (channels colours : List Name) (form : NamedKind) → capacity_of (component_in channels colours form) ≡ form_capacity form
 same_capacity channels colours (source out ds mode) = refl
 same_capacity channels colours (sink input mode) = refl
 same_capacity channels colours (queue input out capacity initial) = refl
@@ -191,73 +193,73 @@ same_capacity channels colours (join a b out pass) = refl
 same_capacity channels colours (switch input a b to_a) = refl
 same_capacity channels colours (merge a b out) = refl
 
-same_capacities : (channels colours : List Name) (parts : List Part) → sum_by capacity_of (map (part_numbered channels colours) parts) ≡ sum_by capacity_in parts
+same_capacities : (channels colours : List Name) (primitives : List NamedPrimitive) → sum_by capacity_of (map (primitive_numbered channels colours) primitives) ≡ sum_by capacity_in primitives
 same_capacities channels colours [] = refl
-same_capacities channels colours (part ∷ parts) =
-    rw (sum_by-cons capacity_of (part_numbered channels colours part) (map (part_numbered channels colours) parts), sum_by-cons capacity_in part parts, same_capacity channels colours part.form, same_capacities channels colours parts) refl
+same_capacities channels colours (primitive ∷ primitives) =
+    rw (sum_by-cons capacity_of (primitive_numbered channels colours primitive) (map (primitive_numbered channels colours) primitives), sum_by-cons capacity_in primitive primitives, same_capacity channels colours primitive.form, same_capacities channels colours primitives) refl
 
 -- ---- a draft
 
 -- what the tests of colours and of sizes say, one by one
-pub record Limits (draft : Draft) : Type 0 where
-  pub colours : (1 ≤ length draft.colours) × (length draft.colours ≤ 64)
-  pub parts : (1 ≤ length draft.parts) × (length draft.parts ≤ 4096)
-  pub channels : (1 ≤ length (channel_names draft.parts)) × (length (channel_names draft.parts) ≤ 8192)
-  pub sources : All (λ part. offers_sized part.form ≡ Ok tt) draft.parts
-  pub capacities : All (λ part. room_sized part.form ≡ Ok tt) draft.parts
-  pub small : All (λ part. capacity_in part ≤ 4096) draft.parts
-  pub sum : sum_by capacity_in draft.parts ≤ 1000000
-  pub initial : All (λ part. packets_sized part.form ≡ Ok tt) draft.parts
+pub record Limits (draft : NamedNet) : Type 0 where
+  pub colours : (1 ≤ length draft.colours) × (length draft.colours ≤ most_colours)
+  pub primitives : (1 ≤ length draft.primitives) × (length draft.primitives ≤ most_primitives)
+  pub channels : (1 ≤ length (channel_names draft.primitives)) × (length (channel_names draft.primitives) ≤ most_channels)
+  pub sources : All (λ primitive. check_offers primitive.form ≡ Ok tt) draft.primitives
+  pub capacities : All (λ primitive. check_room primitive.form ≡ Ok tt) draft.primitives
+  pub small : All (λ primitive. capacity_in primitive ≤ most_capacity) draft.primitives
+  pub sum : sum_by capacity_in draft.primitives ≤ most_capacities
+  pub initial : All (λ primitive. check_packets primitive.form ≡ Ok tt) draft.primitives
 
-pub limits : (draft : Draft) → limited draft ≡ Ok tt → Limits draft
-unfolding limited
+pub limits : (draft : NamedNet) → check_sizes draft ≡ Ok tt → Limits draft
+unfolding check_sizes
 limits draft e =
-    let colours = both (sized which.Colours 1 64 (length draft.colours)) _ e in
-    let parts = both (sized which.Primitives 1 4096 (length draft.parts)) _ colours.1 in
-    let channels = both (sized which.Channels 1 8192 (length (channel_names draft.parts))) _ parts.1 in
-    let sources = both (each_holds source_sized draft.parts) _ channels.1 in
-    let capacities = both (each_holds capacity_sized draft.parts) _ sources.1 in
-    let total = both (sized which.CapacitySum 0 1000000 (sum_by capacity_in draft.parts)) _ capacities.1 in
+    let colours = both (check_size which.Colours 1 most_colours (length draft.colours)) _ e in
+    let primitives = both (check_size which.Primitives 1 most_primitives (length draft.primitives)) _ colours.1 in
+    let channels = both (check_size which.Channels 1 most_channels (length (channel_names draft.primitives))) _ primitives.1 in
+    let sources = both (each_holds check_source_size draft.primitives) _ channels.1 in
+    let capacities = both (each_holds check_queue_size draft.primitives) _ sources.1 in
+    let total = both (check_size which.CapacitySum 0 most_capacities (sum_by capacity_in draft.primitives)) _ capacities.1 in
     record {
-      colours = within which.Colours 1 64 (length draft.colours) colours.0;
-      parts = within which.Primitives 1 4096 (length draft.parts) parts.0;
-      channels = within which.Channels 1 8192 (length (channel_names draft.parts)) channels.0;
-      sources = held source_sized (λ (part : Part). offers_sized part.form ≡ Ok tt) (λ i part h. h) 0 draft.parts sources.0;
-      capacities = held capacity_sized (λ (part : Part). room_sized part.form ≡ Ok tt) (λ i part h. h) 0 draft.parts capacities.0;
-      small = all_small draft.parts capacities.0;
-      sum = (within which.CapacitySum 0 1000000 (sum_by capacity_in draft.parts) total.0).1;
-      initial = held initial_sized (λ (part : Part). packets_sized part.form ≡ Ok tt) (λ i part h. h) 0 draft.parts total.1;
+      colours = within which.Colours 1 most_colours (length draft.colours) colours.0;
+      primitives = within which.Primitives 1 most_primitives (length draft.primitives) primitives.0;
+      channels = within which.Channels 1 most_channels (length (channel_names draft.primitives)) channels.0;
+      sources = held check_source_size (λ (primitive : NamedPrimitive). check_offers primitive.form ≡ Ok tt) (λ i primitive h. h) 0 draft.primitives sources.0;
+      capacities = held check_queue_size (λ (primitive : NamedPrimitive). check_room primitive.form ≡ Ok tt) (λ i primitive h. h) 0 draft.primitives capacities.0;
+      small = all_small draft.primitives capacities.0;
+      sum = (within which.CapacitySum 0 most_capacities (sum_by capacity_in draft.primitives) total.0).1;
+      initial = held check_queue_packets (λ (primitive : NamedPrimitive). check_packets primitive.form ≡ Ok tt) (λ i primitive h. h) 0 draft.primitives total.1;
     }
 
 -- each primitive's lists and maps have known colours, wherever they stand
-abbrev pub IsColoured : List Name → Part → Type 0
-IsColoured colours part = (path : List ℕ) × (form_coloured colours path part.form ≡ Ok tt)
+abbrev pub IsColoured : List Name → NamedPrimitive → Type 0
+IsColoured colours primitive = (path : List ℕ) × (check_form_colours colours path primitive.form ≡ Ok tt)
 
-pub parts_coloured : (draft : Draft) → coloured draft ≡ Ok tt → All (IsColoured draft.colours) draft.parts
-unfolding coloured
-parts_coloured draft e =
-    held (part_coloured draft.colours) (IsColoured draft.colours) (λ i part h. (place_of net i, h)) 0 draft.parts (both (each_holds (part_coloured draft.colours) draft.parts) (each_holds (entry_coloured draft.colours) draft.allow) e).0
+pub primitives_coloured : (draft : NamedNet) → check_colours draft ≡ Ok tt → All (IsColoured draft.colours) draft.primitives
+unfolding check_colours
+primitives_coloured draft e =
+    held (check_primitive_colours draft.colours) (IsColoured draft.colours) (λ i primitive h. (place_of net i, h)) 0 draft.primitives (both (each_holds (check_primitive_colours draft.colours) draft.primitives) (each_holds (check_entry_colours draft.colours) draft.allow) e).0
 
-pub within_limits : (draft : Draft) → limited draft ≡ Ok tt → coloured draft ≡ Ok tt → IsWithinLimits (net_of draft)
+pub within_limits : (draft : NamedNet) → check_sizes draft ≡ Ok tt → check_colours draft ≡ Ok tt → IsWithinLimits (net_of draft)
 unfolding net_of
 within_limits draft small known_all =
     let it = limits draft small in
-    let names = channel_names draft.parts in
-    let long = length-map draft.parts (part_numbered names draft.colours) in
-    let among = all_used draft.parts in
-    let coloured_all = parts_coloured draft known_all in
+    let names = channel_names draft.primitives in
+    let long = length-map draft.primitives (primitive_numbered names draft.colours) in
+    let among = all_used draft.primitives in
+    let coloured_all = primitives_coloured draft known_all in
     record {
-      some_prims = omega (arith, long, it.parts.0);
-      prims = omega (arith, long, it.parts.1);
+      some_prims = omega (arith, long, it.primitives.0);
+      prims = omega (arith, long, it.primitives.1);
       some_channels = it.channels.0;
       channels = it.channels.1;
       some_colours = it.colours.0;
       colours = it.colours.1;
-      outputs = All-map (λ m. All (λ c. c < length names) (outputs m)) (part_numbered names draft.colours) draft.parts
-          (λ k d lt. All-back (λ c. c < length names) (inputs (part_numbered names draft.colours (get_or draft.parts k d))) _ (ports_within names draft.colours (get_or draft.parts k d) (among k d lt)));
-      inputs = All-map (λ m. All (λ c. c < length names) (inputs m)) (part_numbered names draft.colours) draft.parts
-          (λ k d lt. All-front (λ c. c < length names) _ (outputs (part_numbered names draft.colours (get_or draft.parts k d))) (ports_within names draft.colours (get_or draft.parts k d) (among k d lt)));
-      primitives = All-map (FitsComponent (length draft.colours)) (part_numbered names draft.colours) draft.parts
-          (λ k d lt. fits names draft.colours (coloured_all k d lt).0 (get_or draft.parts k d).form (coloured_all k d lt).1 (it.sources k d lt) (it.capacities k d lt) (it.initial k d lt));
-      capacities = omega (arith, same_capacities names draft.colours draft.parts, it.sum);
+      outputs = All-map (λ m. All (λ c. c < length names) (outputs m)) (primitive_numbered names draft.colours) draft.primitives
+          (λ k d lt. All-back (λ c. c < length names) (inputs (primitive_numbered names draft.colours (get_or draft.primitives k d))) _ (ports_within names draft.colours (get_or draft.primitives k d) (among k d lt)));
+      inputs = All-map (λ m. All (λ c. c < length names) (inputs m)) (primitive_numbered names draft.colours) draft.primitives
+          (λ k d lt. All-front (λ c. c < length names) _ (outputs (primitive_numbered names draft.colours (get_or draft.primitives k d))) (ports_within names draft.colours (get_or draft.primitives k d) (among k d lt)));
+      primitives = All-map (FitsComponent (length draft.colours)) (primitive_numbered names draft.colours) draft.primitives
+          (λ k d lt. fits names draft.colours (coloured_all k d lt).0 (get_or draft.primitives k d).form (coloured_all k d lt).1 (it.sources k d lt) (it.capacities k d lt) (it.initial k d lt));
+      capacities = omega (arith, same_capacities names draft.colours draft.primitives, it.sum);
     }

@@ -1,19 +1,15 @@
 -- What tests that passed say.
-use Rattle.std.proofs.Common.{◌≡◌, ℕ, suc, Bool, true, false, List, [], ◌∷◌, ◌++◌, Result, Ok, Err, refl}
+use Rattle.std.proofs.Common.{◌≡◌, ℕ, suc, List, [], ◌∷◌, ◌++◌, Result, Ok, Err, refl}
 use Rattle.std.specs.Prelude.{⊤}
 use Rattle.std.specs.List.{All}
 use Rattle.std.proofs.lemmas.List.Elements.{All-cons, All-head, All-nil, All-tail}
 use Rattle.xm_model.specs.Steps.{◌>>=◌, check}
 use Rattle.xm_shape.specs.Fault.{Fault}
-use Rattle.xm_shape.specs.Holding.{each_holds_from}
+use Rattle.xm_json.specs.Holding.{each_holds_from}
 
 pub both : (r s : Result ⊤ Fault) → (r >>= λ _. s) ≡ Ok tt → (r ≡ Ok tt) × (s ≡ Ok tt)
 both (Ok x) s e = (refl, e)
 both (Err f) s e = absurd cc
-
-pub checked : (b : Bool) (f : Fault) → check b f ≡ Ok tt → b ≡ true
-checked true f e = refl
-checked false f e = absurd cc
 
 module _ {A : Type 0} where
   -- each item passed

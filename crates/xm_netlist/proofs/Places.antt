@@ -6,16 +6,16 @@ use Rattle.std.specs.Str.{bytes_eq}
 use Rattle.std.proofs.lemmas.Bool.{ltb-false}
 use Rattle.std.proofs.lemmas.List.{get_or-map, length-map}
 use Rattle.std.proofs.lemmas.List.Recursion.{is_position_or_len}
-use Rattle.xm_shape.specs.Drafted.{names_seen}
+use Rattle.xm_shape.specs.Views.{names_of}
 use Rattle.xm_shape.specs.Names.{Name, number_in}
 
 one_step : (b : Bool) (n : ℕ) → cond b 0 (suc n) ≡ cond b 0 (1 + n)
 one_step true n = refl
 one_step false n = omega arith
 
-number_in-position : (ks : List (String Global)) (n : Name) → number_in (names_seen ks) n ≡ position_or_len (λ k. bytes_eq n (string_bytes k)) ks
+number_in-position : (ks : List (String Global)) (n : Name) → number_in (names_of ks) n ≡ position_or_len (λ k. bytes_eq n (string_bytes k)) ks
 number_in-position ks n =
-    is_position_or_len (λ ks. number_in (names_seen ks) n) (λ k. bytes_eq n (string_bytes k)) refl (λ k ks. one_step (bytes_eq n (string_bytes k)) (number_in (names_seen ks) n)) ks
+    is_position_or_len (λ ks. number_in (names_of ks) n) (λ k. bytes_eq n (string_bytes k)) refl (λ k ks. one_step (bytes_eq n (string_bytes k)) (number_in (names_of ks) n)) ks
 
 pub number_in-within : (names : List Name) (n : Name) → number_in names n ≤ length names
 number_in-within [] n = omega arith
@@ -32,9 +32,9 @@ found_or p len le =
 
 -- what a look-up found, or the count of the names
 pub number_found : (ks : List (String Global)) (n : Name) (found : Option ℕ) (count got : ℕ) → found ≡ position (λ k. bytes_eq n (string_bytes k)) ks → count ≡ length ks → got ≡ unwrap_or found count
-    → got ≡ number_in (names_seen ks) n
+    → got ≡ number_in (names_of ks) n
 number_found ks n found count got is long made =
-    let within : position_or_len (λ k. bytes_eq n (string_bytes k)) ks ≤ length ks = omega (arith, number_in-within (names_seen ks) n, number_in-position ks n, length-map ks (string_bytes {Z = Global})) in
+    let within : position_or_len (λ k. bytes_eq n (string_bytes k)) ks ≤ length ks = omega (arith, number_in-within (names_of ks) n, number_in-position ks n, length-map ks (string_bytes {Z = Global})) in
     made ∙ rw (is, long) (sym (found_or (position_or_len (λ k. bytes_eq n (string_bytes k)) ks) (length ks) within)) ∙ sym (number_in-position ks n)
 
 -- the item at i of a list of the code, where each passes

@@ -2,11 +2,11 @@
 use Rattle.std.proofs.Common.{◌≡◌, ℕ, ◌+◌, ◌<◌, List, [], ◌∷◌, ◌++◌, length, get_or, drop, map, take, Result, Ok, refl, sym, ap, ◌∙◌, add-one}
 use Rattle.std.specs.Prelude.{⊤}
 use Rattle.std.proofs.lemmas.List.{get_or-map, length-map, map_push, take_more}
-use Rattle.xm_shape.specs.Failing.{Fails-bind}
+use Rattle.xm_json.specs.Lemmas.StepFacts.{Fails-bind}
 use Rattle.xm_shape.specs.Fault.{Fault}
-use Rattle.xm_shape.specs.Gives.{Fails}
-use Rattle.xm_shape.specs.Holding.{each_holds_from}
-use Rattle.xm_shape.specs.Uses.{cut_at}
+use Rattle.xm_shape.specs.Gives.{Fails, fault_of}
+use Rattle.xm_json.specs.Holding.{each_holds_from}
+use Rattle.xm_json.specs.Lemmas.Lists.{cut_at}
 use Rattle.xm_shape.specs.declared.fault.DocFault.{DocFault}
 
 module _ {X A : Type 0} (view : X → A) (xs : List X) (i : ℕ) (x : X) (lt : i < length xs) (is : x ≡ get_or xs i x) where
@@ -29,7 +29,7 @@ module _ {X A : Type 0} (view : X → A) (xs : List X) (i : ℕ) (x : X) (lt : i
   pub test_failed : (f : ℕ → A → Result ⊤ Fault) (total : Result ⊤ Fault) (e : DocFault) → Fails e (f i (view x)) → each_holds_from f i (map view (drop i xs)) ≡ total → Fails e total
   test_failed f total e fails so_far =
       let so : each_holds_from f i (map view (x ∷ drop (i + 1) xs)) ≡ total = sym (ap (λ (l : List X). each_holds_from f i (map view l)) (cut_at xs i x x lt is)) ∙ so_far in
-      rw (← so) (Fails-bind e (f i (view x)) _ fails)
+      rw (← so) (Fails-bind fault_of e (f i (view x)) _ fails)
 
   -- what f gives of the items up to i
   pub name_taken : {B : Type 0} (f : A → B) (before new : List B) → before ≡ map f (take i (map view xs)) → new ≡ before ++ f (view x) ∷ [] → new ≡ map f (take (i + 1) (map view xs))

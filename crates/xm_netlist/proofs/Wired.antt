@@ -4,9 +4,9 @@ use Rattle.std.proofs.lemmas.Bool.{cases_eq}
 use Rattle.xm_model.specs.Component.{Component}
 use Rattle.xm_model.specs.Naming.{Naming}
 use Rattle.xm_model.specs.Net.{IsWellWired, IsWiredAt, Network, fault_at, initiators, targets, wiring_fault}
-use Rattle.xm_model.specs.declared.parts.WiringFault.{WiringFault}
-use Rattle.xm_shape.specs.Holding.{refuse}
-use Rattle.xm_netlist.specs.Numbered.{first_of, wired, wiring_fault_of, wiring_from}
+use Rattle.xm_model.specs.declared.fault.WiringFault.{WiringFault}
+use Rattle.xm_json.specs.Holding.{refuse}
+use Rattle.xm_netlist.specs.Numbered.{first_of, check_wiring, wiring_fault_of, wiring_from}
 
 single : (c : ℕ) (is ts : List ℕ) → wiring_fault c is ts ≡ None → ((p : ℕ) × (is ≡ p ∷ [])) × ((p : ℕ) × (ts ≡ p ∷ []))
 single c [] ts none = absurd cc
@@ -25,16 +25,16 @@ neither (Some fault) rest none = absurd cc
 no_fault : (prims : List Component) (c n k : ℕ) → wiring_from prims c n ≡ None → c ≤ k → k < c + n → fault_at prims k ≡ None
 no_fault prims c zero k none le lt = absurd (omega arith)
 no_fault prims c (suc n) k none le lt =
-    let parts = neither (fault_at prims c) (wiring_from prims (suc c) n) none in
+    let primitives = neither (fault_at prims c) (wiring_from prims (suc c) n) none in
     elim (cases_eq k c) [
-      | inl here ↦ ap (fault_at prims) here ∙ parts.0
-      | inr other ↦ no_fault prims (suc c) n k parts.1 (omega arith) (omega arith)
+      | inl here ↦ ap (fault_at prims) here ∙ primitives.0
+      | inr other ↦ no_fault prims (suc c) n k primitives.1 (omega arith) (omega arith)
     ]
 
 not_refused : (names : Naming) (fault : Option WiringFault) → refuse (wiring_fault_of names fault) ≡ Ok tt → fault ≡ None
 not_refused names None ok = refl
 not_refused names (Some fault) ok = absurd cc
 
-pub well_wired : (net : Network) (names : Naming) → wired net names ≡ Ok tt → IsWellWired net
-unfolding wired
+pub well_wired : (net : Network) (names : Naming) → check_wiring net names ≡ Ok tt → IsWellWired net
+unfolding check_wiring
 well_wired net names ok c lt = wired_at net.prims c (no_fault net.prims 0 net.channels c (not_refused names (wiring_from net.prims 0 net.channels) ok) (omega arith) (omega arith))

@@ -1,12 +1,8 @@
+pub mod Checks
 pub mod Doc
 pub mod Documented
-pub mod FirstFault
-pub mod Json
-pub mod Lengths
-pub mod Making
+pub mod Inner
+pub mod Lemmas
 pub mod Numbered
-pub mod Placed
 pub mod Reading
-pub mod Tested
-pub mod Tests
 pub mod Valid

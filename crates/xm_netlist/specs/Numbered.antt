@@ -3,12 +3,12 @@ use Rattle.std.specs.Prelude.{ℕ, zero, suc, List, [], ◌∷◌, ◌++◌, Boo
 use Rattle.xm_model.specs.Component.{Component, Fork, Function, Join, Merge, Queue, Sink, Source, Switch}
 use Rattle.xm_model.specs.Naming.{Allowed, Naming}
 use Rattle.xm_model.specs.Net.{Network, fault_at}
-use Rattle.xm_model.specs.declared.parts.WiringFault.{WiringFault}
-use Rattle.xm_shape.specs.Draft.{Allowing, Draft, Form, Part, Table, channel_names, fork, function, join, merge, queue, sink, source, switch}
+use Rattle.xm_model.specs.declared.fault.WiringFault.{WiringFault}
+use Rattle.xm_shape.specs.NamedNet.{AllowEntry, NamedNet, NamedKind, NamedPrimitive, Table, channel_names, fork, function, join, merge, queue, sink, source, switch}
 use Rattle.xm_shape.specs.Fault.{Fault, wiring}
-use Rattle.xm_shape.specs.Holding.{refuse}
+use Rattle.xm_json.specs.Holding.{refuse}
 use Rattle.xm_shape.specs.Names.{Name, number_in}
-use Rattle.xm_netlist.specs.Tests.{name_of}
+use Rattle.xm_netlist.specs.Checks.{name_of}
 
 -- the list in which each item has set its place to its value, one after another
 abbrev pub set_each : {A X : Type 0} → (A → ℕ) → (A → X) → List A → List X → List X
@@ -22,37 +22,46 @@ numbers_below (suc n) = numbers_below n ++ n ∷ []
 
 -- what each colour becomes: itself, but where the map names it
 abbrev pub images_of : List Name → Table → List ℕ
-images_of colours table = set_each (λ (image : Name × Name). number_in colours image.0) (λ (image : Name × Name). number_in colours image.1) table (numbers_below (length colours))
+images_of colours table =
+    set_each (λ (image : Name × Name). number_in colours image.0)
+    (λ (image : Name × Name). number_in colours image.1) table (numbers_below (length colours))
 
 -- for each colour, whether it is listed
 abbrev pub marks_of : List Name → List Name → List Bool
 marks_of colours names = set_each (number_in colours) (λ (name : Name). true) names (replicate (length colours) false)
 
-abbrev pub component_in : List Name → List Name → Form → Component
+abbrev pub component_in : List Name → List Name → NamedKind → Component
 component_in channels colours (source out ds mode) = Source (number_in channels out) (map (number_in colours) ds) mode
 component_in channels colours (sink input mode) = Sink (number_in channels input) mode
-component_in channels colours (queue input out capacity initial) = Queue (number_in channels input) (number_in channels out) capacity (map (number_in colours) initial)
-component_in channels colours (function input out table) = Function (number_in channels input) (number_in channels out) (images_of colours table)
+component_in channels colours (queue input out capacity initial) =
+    Queue (number_in channels input) (number_in channels out) capacity (map (number_in colours) initial)
+component_in channels colours (function input out table) =
+    Function (number_in channels input) (number_in channels out) (images_of colours table)
 component_in channels colours (fork input a b table_a table_b) =
-    Fork (number_in channels input) (number_in channels a) (number_in channels b) (images_of colours table_a) (images_of colours table_b)
-component_in channels colours (join a b out pass) = Join (number_in channels a) (number_in channels b) (number_in channels out) pass
-component_in channels colours (switch input a b to_a) = Switch (number_in channels input) (number_in channels a) (number_in channels b) (marks_of colours to_a)
-component_in channels colours (merge a b out) = Merge (number_in channels a) (number_in channels b) (number_in channels out)
+    Fork (number_in channels input) (number_in channels a) (number_in channels b)
+    (images_of colours table_a) (images_of colours table_b)
+component_in channels colours (join a b out pass) =
+    Join (number_in channels a) (number_in channels b) (number_in channels out) pass
+component_in channels colours (switch input a b to_a) =
+    Switch (number_in channels input) (number_in channels a) (number_in channels b) (marks_of colours to_a)
+component_in channels colours (merge a b out) =
+    Merge (number_in channels a) (number_in channels b) (number_in channels out)
 
-abbrev pub part_numbered : List Name → List Name → Part → Component
-part_numbered channels colours part = component_in channels colours part.form
+abbrev pub primitive_numbered : List Name → List Name → NamedPrimitive → Component
+primitive_numbered channels colours primitive = component_in channels colours primitive.form
 
 -- the net that the names make, well wired or not
-unfoldable pub net_of : Draft → Network
+unfoldable pub net_of : NamedNet → Network
 net_of draft = record {
-  prims = map (part_numbered (channel_names draft.parts) draft.colours) draft.parts;
-  channels = length (channel_names draft.parts);
+  prims = map (primitive_numbered (channel_names draft.primitives) draft.colours) draft.primitives;
+  channels = length (channel_names draft.primitives);
   colours = length draft.colours;
 }
 
 -- the names, each by its number
-unfoldable pub naming_in : Draft → Naming
-naming_in draft = record { prims = map name_of draft.parts; channels = channel_names draft.parts; colours = draft.colours }
+unfoldable pub naming_in : NamedNet → Naming
+naming_in draft =
+    record { prims = map name_of draft.primitives; channels = channel_names draft.primitives; colours = draft.colours }
 
 -- the places of the marks, from the first on, whose number is given
 abbrev pub marked_from : ℕ → List Bool → List ℕ
@@ -71,13 +80,15 @@ entries_from c (None ∷ slots) = entries_from (suc c) slots
 entries_from c (Some ds ∷ slots) = record { channel = c; colours = ds } ∷ entries_from (suc c) slots
 
 -- for each channel, the colours of its entry, if it has one
-abbrev pub slots_of : List Name → List Name → List Allowing → List (Option (List ℕ))
+abbrev pub slots_of : List Name → List Name → List AllowEntry → List (Option (List ℕ))
 slots_of channels colours entries =
-    set_each (λ (e : Allowing). number_in channels e.channel) (λ (e : Allowing). Some (listed_in colours e.colours)) entries (replicate (length channels) None)
+    set_each (λ (e : AllowEntry). number_in channels e.channel)
+    (λ (e : AllowEntry). Some (listed_in colours e.colours))
+    entries (replicate (length channels) None)
 
 -- the entries by channel
-unfoldable pub allow_of : Draft → List Allowed
-allow_of draft = entries_from 0 (slots_of (channel_names draft.parts) draft.colours draft.allow)
+unfoldable pub allow_of : NamedNet → List Allowed
+allow_of draft = entries_from 0 (slots_of (channel_names draft.primitives) draft.colours draft.allow)
 
 -- the fault of the first channel that is not well wired, of so many from c on
 abbrev pub first_of : Option WiringFault → Option WiringFault → Option WiringFault
@@ -93,5 +104,5 @@ wiring_fault_of names None = None
 wiring_fault_of names (Some fault) = Some (wiring fault names)
 
 -- each channel is wired
-unfoldable pub wired : Network → Naming → Result ⊤ Fault
-wired net names = refuse (wiring_fault_of names (wiring_from net.prims 0 net.channels))
+unfoldable pub check_wiring : Network → Naming → Result ⊤ Fault
+check_wiring net names = refuse (wiring_fault_of names (wiring_from net.prims 0 net.channels))

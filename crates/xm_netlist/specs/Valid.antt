@@ -6,7 +6,7 @@ use Rattle.xm_model.specs.Component.{Component, Fork, Function, Join, Merge, Que
 use Rattle.xm_model.specs.Naming.{Allowed, IsNamed}
 use Rattle.xm_model.specs.Net.{HasPrim, IsNet, Network, inputs, outputs}
 use Rattle.xm_shape.specs.Names.{Name, is_among, is_colour_name, is_name}
-use Rattle.xm_shape.specs.Shape.{has_whole}
+use Rattle.xm_json.specs.WholeNumbers.{has_whole}
 use Rattle.xm_netlist.specs.Doc.{Doc}
 use Rattle.xm_netlist.specs.Numbered.{numbers_below}
 
@@ -56,7 +56,9 @@ RisesWithin low high (x ∷ xs) = (low ≤ x) × (x < high) × RisesWithin (suc 
 -- the entries rise by channel, and each has colours that rise
 abbrev pub AllowsWithin : Network → ℕ → List Allowed → Type 0
 AllowsWithin net low [] = Unit {0}
-AllowsWithin net low (e ∷ es) = (low ≤ e.channel) × (e.channel < net.channels) × RisesWithin 0 net.colours e.colours × AllowsWithin net (suc e.channel) es
+AllowsWithin net low (e ∷ es) =
+    (low ≤ e.channel) × (e.channel < net.channels) × RisesWithin 0 net.colours e.colours
+    × AllowsWithin net (suc e.channel) es
 
 -- it can stand within a document: not too deep, and with whole numbers
 pub record IsPart (d : Data) : Type 0 where

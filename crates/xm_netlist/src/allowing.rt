@@ -2,19 +2,20 @@
 
 ghost use Rattle.std.specs.Prelude.{◌≡◌, ◌≤◌, ◌∷◌, ◌++◌, [], IfOk, OnOk, None, length, map};
 ghost use Rattle.xm_model.specs.Naming.{allowed_of};
-ghost use Rattle.xm_shape.specs.Drafted.{allowing_seen, names_seen};
+ghost use Rattle.xm_model.specs.Limits.{most_channels, most_colours};
+ghost use Rattle.xm_shape.specs.Views.{allow_entry_of, names_of};
 ghost use Rattle.xm_netlist.specs.Numbered as spec;
-ghost use Rattle.xm_netlist.specs.Placed.{AreFew, allow_seen, slot_seen, slots_seen, slots_with};
+ghost use Rattle.xm_netlist.specs.Inner.Placed.{AreFew, numbered_allow, slot_of, plain_slots_of, slots_with};
 
-use crate::numbering::{Numbers, filled, marks_of, number, set_at};
+use crate::numbering::{Numbers, marks_of, number, set_at};
 use indexmap::IndexSet;
 use std::alloc::Global;
 use xm_model::{Allow, List, OutOfMemory};
-use xm_shape::Allowing;
+use xm_shape::AllowEntry;
 
 /// The places of the marks, from the first on.
-fn marked(alloc: Global, marks: &[bool]) -> Result<List<u8>, OutOfMemory>
-    requires { length marks.now ≤ 64 }
+fn marked_places(alloc: Global, marks: &[bool]) -> Result<List<u8>, OutOfMemory>
+    requires { length marks.now ≤ most_colours }
     ensures { IfOk result (λ l. l.items ≡ spec.marked_from 0 marks.now) }
 {
     let mut places = List::new(alloc);
@@ -27,20 +28,21 @@ fn marked(alloc: Global, marks: &[bool]) -> Result<List<u8>, OutOfMemory>
 }
 
 /// The numbers of the colours, in colour order.
-fn listed(
+fn listed_colours(
     alloc: Global,
     known: &IndexSet<String>,
     names: &[String],
 ) -> Result<List<u8>, OutOfMemory>
-    requires { length known.now.keys ≤ 64 }
-    ensures { IfOk result (λ l. l.items ≡ spec.listed_in (names_seen known.now.keys) (names_seen names.now)) }
+    requires { length known.now.keys ≤ most_colours }
+    ensures { IfOk result (λ l. l.items ≡ spec.listed_in (names_of known.now.keys) (names_of names.now)) }
 {
     let marks = marks_of(alloc, known, names)?;
-    marked(alloc, marks.as_slice())
+    marked_places(alloc, marks.as_slice())
 }
 
-fn set_slots<'a>(slots: &mut [Option<&'a Allowing>], numbers: &Numbers, entries: &'a [Allowing])
-    ensures { slots_seen numbers.now slots.new ≡ slots_with numbers.now (map allowing_seen entries.entry.now) (slots_seen numbers.now slots.old) }
+fn set_slots<'a>(slots: &mut [Option<&'a AllowEntry>], numbers: &Numbers, entries: &'a [AllowEntry])
+    ensures { plain_slots_of numbers.now slots.new
+        ≡ slots_with numbers.now (map allow_entry_of entries.entry.now) (plain_slots_of numbers.now slots.old) }
 {
     for entry in entries {
         let place = number(&numbers.channels, entry.channel.as_str());
@@ -52,12 +54,15 @@ fn set_slots<'a>(slots: &mut [Option<&'a Allowing>], numbers: &Numbers, entries:
 fn slots_of<'a>(
     alloc: Global,
     numbers: &Numbers,
-    entries: &'a [Allowing],
-) -> Result<List<Option<&'a Allowing>>, OutOfMemory>
+    entries: &'a [AllowEntry],
+) -> Result<List<Option<&'a AllowEntry>>, OutOfMemory>
+    requires { AreFew numbers.now }
     ensures len { IfOk result (λ l. length l.items ≡ length numbers.now.channels.keys) }
-    ensures slots { IfOk result (λ l. slots_seen numbers.now l.items ≡ spec.slots_of (names_seen numbers.now.channels.keys) (names_seen numbers.now.colours.keys) (map allowing_seen entries.entry.now)) }
+    ensures slots { IfOk result (λ l. plain_slots_of numbers.now l.items
+        ≡ spec.slots_of (names_of numbers.now.channels.keys) (names_of numbers.now.colours.keys)
+        (map allow_entry_of entries.entry.now)) }
 {
-    let mut slots = filled(alloc, numbers.channels.len(), None)?;
+    let mut slots = List::filled(alloc, None, numbers.channels.len() as u32)?;
     set_slots(slots.as_mut_slice(), numbers, entries);
     Ok(slots)
 }
@@ -67,26 +72,28 @@ fn push_entry(
     numbers: &Numbers,
     allow: &mut List<Allow>,
     channel: u32,
-    slot: Option<&Allowing>,
+    slot: Option<&AllowEntry>,
 ) -> Result<(), OutOfMemory>
     requires { AreFew numbers.now }
-    ensures { OnOk result (map allowed_of allow.new.items ≡ map allowed_of allow.old.items ++ spec.entries_from channel (slot_seen numbers.now slot.entry ∷ [])) }
+    ensures { OnOk result (map allowed_of allow.new.items
+        ≡ map allowed_of allow.old.items ++ spec.entries_from channel (slot_of numbers.now slot.entry ∷ [])) }
 {
     let Some(entry) = slot else {
         return Ok(());
     };
-    let colours = listed(alloc, &numbers.colours, &entry.colours)?;
+    let colours = listed_colours(alloc, &numbers.colours, &entry.colours)?;
     allow.push(Allow { channel, colours })
 }
 
 fn allow_in(
     alloc: Global,
     numbers: &Numbers,
-    slots: &[Option<&Allowing>],
+    slots: &[Option<&AllowEntry>],
 ) -> Result<List<Allow>, OutOfMemory>
     requires few { AreFew numbers.now }
-    requires short { length slots.now ≤ 8192 }
-    ensures { IfOk result (λ l. map allowed_of l.items ≡ spec.entries_from 0 (slots_seen numbers.now slots.entry.now)) }
+    requires short { length slots.now ≤ most_channels }
+    ensures { IfOk result (λ l. map allowed_of l.items
+        ≡ spec.entries_from 0 (plain_slots_of numbers.now slots.entry.now)) }
 {
     let mut allow = List::new(alloc);
     for (channel, slot) in slots.iter().enumerate() {
@@ -100,10 +107,10 @@ fn allow_in(
 pub(crate) fn allow_of(
     alloc: Global,
     numbers: &Numbers,
-    entries: &[Allowing],
+    entries: &[AllowEntry],
 ) -> Result<List<Allow>, OutOfMemory>
     requires { AreFew numbers.now }
-    ensures { IfOk result (λ l. map allowed_of l.items ≡ allow_seen numbers.now (map allowing_seen entries.now)) }
+    ensures { IfOk result (λ l. map allowed_of l.items ≡ numbered_allow numbers.now (map allow_entry_of entries.now)) }
 {
     let slots = slots_of(alloc, numbers, entries)?;
     allow_in(alloc, numbers, slots.as_slice())

@@ -1,33 +1,35 @@
 //! The tests of colours: each that a draft names is one of its colours.
 
 ghost use Rattle.std.specs.Prelude.{◌≡◌, ◌∷◌, ◌++◌, [], OnOk, map};
-ghost use Rattle.xm_shape.specs.Drafted.{allowing_seen, draft_seen, form_seen, image_seen, names_seen, part_seen, table_seen};
-ghost use Rattle.xm_shape.specs.Fault.{member_of, place_of};
+ghost use Rattle.xm_shape.specs.Views.{allow_entry_of, plain_net_of, named_kind_of, map_entry_of, names_of, named_primitive_of, table_of};
+ghost use Rattle.xm_json.specs.Path.{member_of, place_of};
 ghost use Rattle.xm_shape.specs.Gives.{Gives};
-ghost use Rattle.xm_shape.specs.Holding.{each_holds};
+ghost use Rattle.xm_json.specs.Holding.{each_holds};
 ghost use Rattle.xm_shape.specs.Names.{is_among};
-ghost use Rattle.xm_netlist.specs.Tested as tested;
-ghost use Rattle.xm_netlist.specs.Tests as spec;
+ghost use Rattle.xm_netlist.specs.Inner.CheckSteps as steps;
+ghost use Rattle.xm_netlist.specs.Checks as spec;
 
 use crate::naming::is_new;
 use indexmap::IndexSet;
 use std::alloc::Global;
-use xm_shape::{Allowing, DocFault, Draft, Form, Image, Part, member_text, path_text, place_text};
+use xm_json::{member_path, member_text, place_path, place_text};
+use xm_model::Text;
+use xm_shape::{AllowEntry, DocFault, MapEntry, NamedKind, NamedNet, NamedPrimitive};
 
 fn is_known(colours: &IndexSet<String>, name: &str) -> bool
-    ensures { result ≡ is_among (names_seen colours.now.keys) name.now }
+    ensures { result ≡ is_among (names_of colours.now.keys) name.now }
 {
     colours.contains(name)
 }
 
-fn known_at_place(
+fn check_known_at_place(
     alloc: Global,
     colours: &IndexSet<String>,
     path: &str,
     place: usize,
     name: &str,
 ) -> Result<(), DocFault>
-    ensures { Gives (λ _. tt) result (spec.known (names_seen colours.now.keys) (place_of path.now place) name.now) }
+    ensures { Gives (λ _. tt) result (spec.check_known (names_of colours.now.keys) (place_of path.now place) name.now) }
 {
     if !is_known(colours, name) {
         return Err(DocFault::UnknownColour(place_text(alloc, path, place)?));
@@ -35,35 +37,36 @@ fn known_at_place(
     Ok(())
 }
 
-fn all_known(
+fn check_all_known(
     alloc: Global,
     colours: &IndexSet<String>,
     path: &str,
     names: &[String],
 ) -> Result<(), DocFault>
-    ensures { Gives (λ _. tt) result (spec.all_known (names_seen colours.now.keys) path.now (names_seen names.now)) }
+    ensures { Gives (λ _. tt) result (spec.check_all_known (names_of colours.now.keys) path.now (names_of names.now)) }
 {
     for (i, name) in names.iter().enumerate() {
-        known_at_place(alloc, colours, path, i, name.as_str())?;
+        check_known_at_place(alloc, colours, path, i, name.as_str())?;
     }
     Ok(())
 }
 
 /// The colours of a member.
-fn names_known(
+fn check_names_known(
     alloc: Global,
     colours: &IndexSet<String>,
     path: &str,
     key: &str,
     names: &[String],
 ) -> Result<(), DocFault>
-    ensures { Gives (λ _. tt) result (spec.all_known (names_seen colours.now.keys) (member_of path.now key.now) (names_seen names.now)) }
+    ensures { Gives (λ _. tt) result (spec.check_all_known (names_of colours.now.keys) (member_of path.now key.now)
+        (names_of names.now)) }
 {
-    let path = format!(in alloc; "{path}.{key}")?;
-    all_known(alloc, colours, path.as_str(), names)
+    let path = member_path(alloc, path, key)?;
+    check_all_known(alloc, colours, path.as_str(), names)
 }
 
-fn offered_at_place(
+fn check_offered_at_place(
     alloc: Global,
     colours: &IndexSet<String>,
     path: &str,
@@ -71,54 +74,58 @@ fn offered_at_place(
     place: usize,
     name: &str,
 ) -> Result<(), DocFault>
-    ensures named { Gives (λ _. tt) result (tested.offered_after (names_seen colours.now.keys) path.now (names_seen before.old.keys) place name.now) }
-    ensures kept { OnOk result (names_seen before.new.keys ≡ names_seen before.old.keys ++ name.now ∷ []) }
+    ensures named { Gives (λ _. tt) result
+        (steps.check_offered_after (names_of colours.now.keys) path.now (names_of before.old.keys) place name.now) }
+    ensures kept { OnOk result (names_of before.new.keys ≡ names_of before.old.keys ++ name.now ∷ []) }
 {
-    known_at_place(alloc, colours, path, place, name)?;
+    check_known_at_place(alloc, colours, path, place, name)?;
     if !is_new(alloc, before, name)? {
         return Err(DocFault::SameName(place_text(alloc, path, place)?));
     }
     Ok(())
 }
 
-fn all_offered(
+fn check_all_offered(
     alloc: Global,
     colours: &IndexSet<String>,
     path: &str,
     names: &[String],
 ) -> Result<(), DocFault>
-    ensures { Gives (λ _. tt) result (tested.all_offered (names_seen colours.now.keys) path.now (names_seen names.now)) }
+    ensures { Gives (λ _. tt) result (steps.check_all_offered (names_of colours.now.keys) path.now
+        (names_of names.now)) }
 {
     let mut before = IndexSet::new(alloc);
     for (i, name) in names.iter().enumerate() {
-        offered_at_place(alloc, colours, path, &mut before, i, name.as_str())?;
+        check_offered_at_place(alloc, colours, path, &mut before, i, name.as_str())?;
     }
     Ok(())
 }
 
 /// The colours of a source, which also differ.
-fn source_coloured(
+fn check_source_colours(
     alloc: Global,
     colours: &IndexSet<String>,
     path: &str,
     names: &[String],
 ) -> Result<(), DocFault>
-    ensures { Gives (λ _. tt) result (tested.source_coloured (names_seen colours.now.keys) path.now (names_seen names.now)) }
+    ensures { Gives (λ _. tt) result (steps.check_source_colours (names_of colours.now.keys) path.now
+        (names_of names.now)) }
 {
-    let path = format!(in alloc; "{path}.colours")?;
-    all_offered(alloc, colours, path.as_str(), names)
+    let path = member_path(alloc, path, "colours")?;
+    check_all_offered(alloc, colours, path.as_str(), names)
 }
 
-fn image_known(
+fn check_map_entry(
     alloc: Global,
     colours: &IndexSet<String>,
     path: &str,
-    image: &Image,
+    image: &MapEntry,
 ) -> Result<(), DocFault>
-    ensures { Gives (λ _. tt) result (tested.image_known (names_seen colours.now.keys) path.now (image_seen image.now)) }
+    ensures { Gives (λ _. tt) result (steps.check_map_entry (names_of colours.now.keys) path.now
+        (map_entry_of image.now)) }
 {
     if !is_known(colours, image.colour.as_str()) {
-        return Err(DocFault::UnknownColour(path_text(alloc, path)?));
+        return Err(DocFault::UnknownColour(Text::from_bytes(alloc, path.as_bytes())?));
     }
     if !is_known(colours, image.image.as_str()) {
         let text = member_text(alloc, path, image.colour.as_str())?;
@@ -127,101 +134,115 @@ fn image_known(
     Ok(())
 }
 
-fn table_known(
+fn check_table(
     alloc: Global,
     colours: &IndexSet<String>,
     path: &str,
-    table: &[Image],
+    table: &[MapEntry],
 ) -> Result<(), DocFault>
-    ensures { Gives (λ _. tt) result (spec.table_known (names_seen colours.now.keys) path.now (table_seen table.now)) }
+    ensures { Gives (λ _. tt) result (spec.check_table (names_of colours.now.keys) path.now (table_of table.now)) }
 {
     for image in table {
-        image_known(alloc, colours, path, image)?;
+        check_map_entry(alloc, colours, path, image)?;
     }
     Ok(())
 }
 
 /// The colours of a map, which is a member.
-fn images_known(
+fn check_map(
     alloc: Global,
     colours: &IndexSet<String>,
     path: &str,
     key: &str,
-    table: &[Image],
+    table: &[MapEntry],
 ) -> Result<(), DocFault>
-    ensures { Gives (λ _. tt) result (spec.table_known (names_seen colours.now.keys) (member_of path.now key.now) (table_seen table.now)) }
+    ensures { Gives (λ _. tt) result (spec.check_table (names_of colours.now.keys) (member_of path.now key.now)
+        (table_of table.now)) }
 {
-    let path = format!(in alloc; "{path}.{key}")?;
-    table_known(alloc, colours, path.as_str(), table)
+    let path = member_path(alloc, path, key)?;
+    check_table(alloc, colours, path.as_str(), table)
 }
 
-fn fork_coloured(
+fn check_fork_colours(
     alloc: Global,
     colours: &IndexSet<String>,
     path: &str,
-    table_a: &[Image],
-    table_b: &[Image],
+    table_a: &[MapEntry],
+    table_b: &[MapEntry],
 ) -> Result<(), DocFault>
-    ensures { Gives (λ _. tt) result (tested.fork_coloured (names_seen colours.now.keys) path.now (table_seen table_a.now) (table_seen table_b.now)) }
+    ensures { Gives (λ _. tt) result (steps.check_fork_colours (names_of colours.now.keys) path.now
+        (table_of table_a.now) (table_of table_b.now)) }
 {
-    images_known(alloc, colours, path, "map_a", table_a)?;
-    images_known(alloc, colours, path, "map_b", table_b)
+    check_map(alloc, colours, path, "map_a", table_a)?;
+    check_map(alloc, colours, path, "map_b", table_b)
 }
 
-fn form_coloured(
+fn check_form_colours(
     alloc: Global,
     colours: &IndexSet<String>,
     path: &str,
-    form: &Form,
+    form: &NamedKind,
 ) -> Result<(), DocFault>
-    ensures { Gives (λ _. tt) result (spec.form_coloured (names_seen colours.now.keys) path.now (form_seen form.now)) }
+    ensures { Gives (λ _. tt) result (spec.check_form_colours (names_of colours.now.keys) path.now
+        (named_kind_of form.now)) }
 {
     match form {
-        Form::Source { colours: names, .. } => source_coloured(alloc, colours, path, names),
-        Form::Sink { .. } => Ok(()),
-        Form::Queue { packets, .. } => names_known(alloc, colours, path, "initial", packets),
-        Form::Function { table, .. } => images_known(alloc, colours, path, "map", table),
-        Form::Fork {
+        NamedKind::Source { colours: names, .. } => check_source_colours(
+            alloc, colours, path, names,
+        ),
+        NamedKind::Sink { .. } => Ok(()),
+        NamedKind::Queue { packets, .. } => check_names_known(
+            alloc, colours, path, "initial", packets,
+        ),
+        NamedKind::Function { table, .. } => check_map(alloc, colours, path, "map", table),
+        NamedKind::Fork {
             table_a,
             table_b,
             ..
-        } => fork_coloured(alloc, colours, path, table_a, table_b),
-        Form::Join { .. } => Ok(()),
-        Form::Switch { to_a, .. } => names_known(alloc, colours, path, "to_a", to_a),
-        Form::Merge { .. } => Ok(()),
+        } => check_fork_colours(alloc, colours, path, table_a, table_b),
+        NamedKind::Join { .. } => Ok(()),
+        NamedKind::Switch { to_a, .. } => check_names_known(alloc, colours, path, "to_a", to_a),
+        NamedKind::Merge { .. } => Ok(()),
     }
 }
 
-fn part_coloured(
+fn check_primitive_colours(
     alloc: Global,
     colours: &IndexSet<String>,
     place: usize,
-    part: &Part,
+    primitive: &NamedPrimitive,
 ) -> Result<(), DocFault>
-    ensures { Gives (λ _. tt) result (spec.part_coloured (names_seen colours.now.keys) place (part_seen part.now)) }
+    ensures { Gives (λ _. tt) result (spec.check_primitive_colours (names_of colours.now.keys) place
+        (named_primitive_of primitive.now)) }
 {
-    let path = format!(in alloc; "net.{place}")?;
-    form_coloured(alloc, colours, path.as_str(), &part.form)
+    let path = place_path(alloc, "net", place)?;
+    check_form_colours(alloc, colours, path.as_str(), &primitive.form)
 }
 
-fn parts_coloured(alloc: Global, colours: &IndexSet<String>, parts: &[Part]) -> Result<(), DocFault>
-    ensures { Gives (λ _. tt) result (each_holds (spec.part_coloured (names_seen colours.now.keys)) (map part_seen parts.now)) }
+fn check_primitives_colours(
+    alloc: Global,
+    colours: &IndexSet<String>,
+    primitives: &[NamedPrimitive],
+) -> Result<(), DocFault>
+    ensures { Gives (λ _. tt) result (each_holds (spec.check_primitive_colours (names_of colours.now.keys))
+        (map named_primitive_of primitives.now)) }
 {
-    for (i, part) in parts.iter().enumerate() {
-        part_coloured(alloc, colours, i, part)?;
+    for (i, primitive) in primitives.iter().enumerate() {
+        check_primitive_colours(alloc, colours, i, primitive)?;
     }
     Ok(())
 }
 
-fn entry_coloured(
+fn check_entry_colours(
     alloc: Global,
     colours: &IndexSet<String>,
     place: usize,
-    entry: &Allowing,
+    entry: &AllowEntry,
 ) -> Result<(), DocFault>
-    ensures { Gives (λ _. tt) result (spec.entry_coloured (names_seen colours.now.keys) place (allowing_seen entry.now)) }
+    ensures { Gives (λ _. tt) result (spec.check_entry_colours (names_of colours.now.keys) place
+        (allow_entry_of entry.now)) }
 {
-    names_known(
+    check_names_known(
         alloc,
         colours,
         "allow",
@@ -230,30 +251,31 @@ fn entry_coloured(
     )
 }
 
-fn entries_coloured(
+fn check_entries_colours(
     alloc: Global,
     colours: &IndexSet<String>,
-    entries: &[Allowing],
+    entries: &[AllowEntry],
 ) -> Result<(), DocFault>
-    ensures { Gives (λ _. tt) result (each_holds (spec.entry_coloured (names_seen colours.now.keys)) (map allowing_seen entries.now)) }
+    ensures { Gives (λ _. tt) result (each_holds (spec.check_entry_colours (names_of colours.now.keys))
+        (map allow_entry_of entries.now)) }
 {
     for (i, entry) in entries.iter().enumerate() {
-        entry_coloured(alloc, colours, i, entry)?;
+        check_entry_colours(alloc, colours, i, entry)?;
     }
     Ok(())
 }
 
 /// The colours that primitives and entries of `allow` name are known, or the first fault. `colours` are
 /// those of the draft. Time grows with the length of the draft.
-#[tactic(auto, unfolding(crate::specs::Tests::coloured))]
-pub(crate) fn coloured(
+#[tactic(auto, unfolding(crate::specs::Checks::check_colours))]
+pub(crate) fn check_colours(
     alloc: Global,
     colours: &IndexSet<String>,
-    draft: &Draft,
+    draft: &NamedNet,
 ) -> Result<(), DocFault>
-    requires { names_seen colours.now.keys ≡ names_seen draft.now.colours.items }
-    ensures { Gives (λ _. tt) result (spec.coloured (draft_seen draft.now)) }
+    requires { names_of colours.now.keys ≡ names_of draft.now.colours.items }
+    ensures { Gives (λ _. tt) result (spec.check_colours (plain_net_of draft.now)) }
 {
-    parts_coloured(alloc, colours, &draft.parts)?;
-    entries_coloured(alloc, colours, &draft.allow)
+    check_primitives_colours(alloc, colours, &draft.primitives)?;
+    check_entries_colours(alloc, colours, &draft.allow)
 }

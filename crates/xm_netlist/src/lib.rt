@@ -1,4 +1,4 @@
-//! Documents, read exactly: from the bytes of a JSON text, or from a draft of names, to a net with the names
+//! Documents, read exactly: from the bytes of a JSON text, or from a net by its names, to a net with the names
 //! of what it numbers, or to the first fault.
 #![tactic(auto)]
 
@@ -13,6 +13,3 @@ mod sizes;
 pub use document::Document;
 pub use reading::{read_document, read_value};
 pub use xm_shape::{DocFault, Which};
-
-#[cfg(test)]
-mod tests_reading;

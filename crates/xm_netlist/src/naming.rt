@@ -3,22 +3,23 @@
 ghost use Rattle.std.specs.List.{list_all};
 ghost use Rattle.std.specs.Option.{option_to_list};
 ghost use Rattle.std.specs.Prelude.{◌≡◌, ◌∷◌, ◌++◌, [], IfOk, OnOk, map, not, option_map, true};
-ghost use Rattle.xm_shape.specs.Draft as plain;
-ghost use Rattle.xm_shape.specs.Drafted.{draft_seen, form_seen, names_seen, part_seen};
+ghost use Rattle.xm_shape.specs.NamedNet as plain;
+ghost use Rattle.xm_shape.specs.Views.{plain_net_of, named_kind_of, names_of, named_primitive_of};
 ghost use Rattle.xm_shape.specs.Gives.{Gives};
-ghost use Rattle.xm_shape.specs.Holding.{each_holds};
+ghost use Rattle.xm_json.specs.Holding.{each_holds};
 ghost use Rattle.xm_shape.specs.Names as names;
 ghost use Rattle.xm_shape.specs.Names.{is_among};
-ghost use Rattle.xm_shape.specs.Ported.{port_seen};
-ghost use Rattle.xm_netlist.specs.Placed.{NumbersOf};
-ghost use Rattle.xm_netlist.specs.Tested.{colour_after, part_after};
-ghost use Rattle.xm_netlist.specs.Tests as spec;
+ghost use Rattle.xm_shape.specs.PortViews.{port_of};
+ghost use Rattle.xm_netlist.specs.Inner.Placed.{NumbersOf};
+ghost use Rattle.xm_netlist.specs.Inner.CheckSteps.{check_colour_after, check_primitive_after};
+ghost use Rattle.xm_netlist.specs.Checks as spec;
 
 use crate::numbering::Numbers;
 use indexmap::IndexSet;
 use std::alloc::Global;
+use xm_json::{member_text, place_path, place_text};
 use xm_model::OutOfMemory;
-use xm_shape::{DocFault, Draft, Form, Part, Port, channel_set, member_text, place_text, ports_of};
+use xm_shape::{DocFault, NamedKind, NamedNet, NamedPrimitive, Port, channel_set, ports_of};
 
 const LONGEST_NAME: usize = 32;
 
@@ -64,21 +65,22 @@ pub(crate) fn is_new(
     before: &mut IndexSet<String>,
     name: &str,
 ) -> Result<bool, OutOfMemory>
-    ensures told { IfOk result (λ new. new ≡ not (is_among (names_seen before.old.keys) name.now)) }
-    ensures kept { IfOk result (λ new. new ≡ true → names_seen before.new.keys ≡ names_seen before.old.keys ++ name.now ∷ []) }
+    ensures told { IfOk result (λ new. new ≡ not (is_among (names_of before.old.keys) name.now)) }
+    ensures kept { IfOk result (λ new. new ≡ true → names_of before.new.keys
+        ≡ names_of before.old.keys ++ name.now ∷ []) }
 {
     let (_, new) = before.insert_full(String::from_str(alloc, name)?)?;
     Ok(new)
 }
 
-fn colour_named(
+fn check_colour_name(
     alloc: Global,
     before: &mut IndexSet<String>,
     place: usize,
     name: &str,
 ) -> Result<(), DocFault>
-    ensures named { Gives (λ _. tt) result (colour_after (names_seen before.old.keys) place name.now) }
-    ensures kept { OnOk result (names_seen before.new.keys ≡ names_seen before.old.keys ++ name.now ∷ []) }
+    ensures named { Gives (λ _. tt) result (check_colour_after (names_of before.old.keys) place name.now) }
+    ensures kept { OnOk result (names_of before.new.keys ≡ names_of before.old.keys ++ name.now ∷ []) }
 {
     if !is_colour_name(name) {
         return Err(DocFault::BadName(place_text(alloc, "colours", place)?));
@@ -90,19 +92,23 @@ fn colour_named(
 }
 
 /// The names of the colours, which have their form and differ. Time grows with their lengths.
-pub(crate) fn colours_named(alloc: Global, colours: &[String]) -> Result<IndexSet<String>, DocFault>
-    ensures named { Gives (λ _. tt) result (each_holds (spec.colour_named (names_seen colours.now)) (names_seen colours.now)) }
-    ensures set { IfOk result (λ set. names_seen set.keys ≡ names_seen colours.now) }
+pub(crate) fn check_colour_names(
+    alloc: Global,
+    colours: &[String],
+) -> Result<IndexSet<String>, DocFault>
+    ensures named { Gives (λ _. tt) result
+        (each_holds (spec.check_colour_name (names_of colours.now)) (names_of colours.now)) }
+    ensures set { IfOk result (λ set. names_of set.keys ≡ names_of colours.now) }
 {
     let mut before = IndexSet::new(alloc);
     for (i, name) in colours.iter().enumerate() {
-        colour_named(alloc, &mut before, i, name.as_str())?;
+        check_colour_name(alloc, &mut before, i, name.as_str())?;
     }
     Ok(before)
 }
 
-fn port_named(alloc: Global, path: &str, port: Port) -> Result<(), DocFault>
-    ensures { Gives (λ _. tt) result (spec.ports_named path.now (port_seen port.entry ∷ [])) }
+fn check_port_name(alloc: Global, path: &str, port: Port) -> Result<(), DocFault>
+    ensures { Gives (λ _. tt) result (spec.check_port_names path.now (port_of port.entry ∷ [])) }
 {
     if !is_name(port.channel) {
         return Err(DocFault::BadName(member_text(alloc, path, port.key)?));
@@ -110,66 +116,73 @@ fn port_named(alloc: Global, path: &str, port: Port) -> Result<(), DocFault>
     Ok(())
 }
 
-fn port_named_if(alloc: Global, path: &str, port: Option<Port>) -> Result<(), DocFault>
-    ensures { Gives (λ _. tt) result (spec.ports_named path.now (option_to_list (option_map port_seen port.entry))) }
+fn check_port_name_if(alloc: Global, path: &str, port: Option<Port>) -> Result<(), DocFault>
+    ensures { Gives (λ _. tt) result (spec.check_port_names path.now (option_to_list (option_map port_of port.entry))) }
 {
     match port {
-        Some(port) => port_named(alloc, path, port),
+        Some(port) => check_port_name(alloc, path, port),
         None => Ok(()),
     }
 }
 
-fn ports_named(alloc: Global, path: &str, form: &Form) -> Result<(), DocFault>
-    ensures { Gives (λ _. tt) result (spec.ports_named path.now (plain.ports_of (form_seen form.now))) }
+fn check_port_names(alloc: Global, path: &str, form: &NamedKind) -> Result<(), DocFault>
+    ensures { Gives (λ _. tt) result (spec.check_port_names path.now (plain.ports_of (named_kind_of form.now))) }
 {
     let ports = ports_of(form);
-    port_named(alloc, path, ports.first)?;
-    port_named_if(alloc, path, ports.second)?;
-    port_named_if(alloc, path, ports.third)
+    check_port_name(alloc, path, ports.first)?;
+    check_port_name_if(alloc, path, ports.second)?;
+    check_port_name_if(alloc, path, ports.third)
 }
 
-fn part_named(
+fn check_primitive_name(
     alloc: Global,
     before: &mut IndexSet<String>,
     place: usize,
-    part: &Part,
+    primitive: &NamedPrimitive,
 ) -> Result<(), DocFault>
-    ensures named { Gives (λ _. tt) result (part_after (names_seen before.old.keys) place (part_seen part.now)) }
-    ensures kept { OnOk result (names_seen before.new.keys ≡ names_seen before.old.keys ++ spec.name_of (part_seen part.now) ∷ []) }
+    ensures named { Gives (λ _. tt) result
+        (check_primitive_after (names_of before.old.keys) place (named_primitive_of primitive.now)) }
+    ensures kept { OnOk result (names_of before.new.keys
+        ≡ names_of before.old.keys ++ spec.name_of (named_primitive_of primitive.now) ∷ []) }
 {
-    let path = format!(in alloc; "net.{place}")?;
-    if !is_name(part.name.as_str()) {
+    let path = place_path(alloc, "net", place)?;
+    if !is_name(primitive.name.as_str()) {
         return Err(DocFault::BadName(member_text(alloc, path.as_str(), "name")?));
     }
-    if !is_new(alloc, before, part.name.as_str())? {
+    if !is_new(alloc, before, primitive.name.as_str())? {
         return Err(DocFault::SameName(member_text(alloc, path.as_str(), "name")?));
     }
-    ports_named(alloc, path.as_str(), &part.form)
+    check_port_names(alloc, path.as_str(), &primitive.form)
 }
 
 /// The names of the primitives, which have their form and differ, where the names of their channels have
 /// their form too. Time grows with their lengths.
-pub(crate) fn parts_named(alloc: Global, parts: &[Part]) -> Result<IndexSet<String>, DocFault>
-    ensures named { Gives (λ _. tt) result (each_holds (spec.part_named (map part_seen parts.now)) (map part_seen parts.now)) }
-    ensures set { IfOk result (λ set. names_seen set.keys ≡ map spec.name_of (map part_seen parts.now)) }
+pub(crate) fn check_primitive_names(
+    alloc: Global,
+    primitives: &[NamedPrimitive],
+) -> Result<IndexSet<String>, DocFault>
+    ensures named { Gives (λ _. tt) result
+        (each_holds (spec.check_primitive_name (map named_primitive_of primitives.now))
+        (map named_primitive_of primitives.now)) }
+    ensures set { IfOk result (λ set. names_of set.keys ≡ map spec.name_of (map named_primitive_of primitives.now)) }
 {
     let mut before = IndexSet::new(alloc);
-    for (i, part) in parts.iter().enumerate() {
-        part_named(alloc, &mut before, i, part)?;
+    for (i, primitive) in primitives.iter().enumerate() {
+        check_primitive_name(alloc, &mut before, i, primitive)?;
     }
     Ok(before)
 }
 
 /// The numbers of a draft's names, which have their form, and differ where they must, or the first fault.
 /// Time grows with their lengths.
-#[tactic(auto, unfolding(crate::specs::Tests::named))]
-pub(crate) fn named(alloc: Global, draft: &Draft) -> Result<Numbers, DocFault>
-    ensures named { Gives (λ _. tt) result (spec.named (draft_seen draft.now)) }
-    ensures placed { IfOk result (NumbersOf (draft_seen draft.now)) }
+#[tactic(auto, unfolding(crate::specs::Checks::check_names))]
+pub(crate) fn check_names(alloc: Global, draft: &NamedNet) -> Result<Numbers, DocFault>
+    ensures named { Gives (λ _. tt) result (spec.check_names (plain_net_of draft.now)) }
+    ensures placed { IfOk result (NumbersOf (plain_net_of draft.now)) }
 {
-    let colours = colours_named(alloc, &draft.colours)?;
-    let prims = parts_named(alloc, &draft.parts)?;
-    let channels = channel_set(alloc, &draft.parts)?;
+    let colours = check_colour_names(alloc, &draft.colours)?;
+    let prims = check_primitive_names(alloc, &draft.primitives)?;
+    let channels = channel_set(alloc, &draft.primitives)?;
     Ok(Numbers {
         prims,
         channels,

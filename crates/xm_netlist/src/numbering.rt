@@ -1,19 +1,20 @@
-//! Primitives by number, from parts by name.
+//! Primitives by number, from primitives by name.
 
-ghost use Rattle.std.specs.Prelude.{◌≡◌, ◌≤◌, ◌∷◌, [], All, IfOk, Bool, false, length, map, replicate, slice_set, true};
+ghost use Rattle.std.specs.Prelude.{◌≡◌, ◌≤◌, ◌∷◌, [], All, IfOk, length, map, slice_set};
 ghost use Rattle.xm_model.specs.Component.{component_of};
 ghost use Rattle.xm_model.specs.Naming.{naming_of, texts_of};
-ghost use Rattle.xm_shape.specs.Draft as plain;
-ghost use Rattle.xm_shape.specs.Drafted.{form_seen, names_seen, part_seen, table_seen};
+ghost use Rattle.xm_model.specs.Limits.{most_capacity, most_colours};
+ghost use Rattle.xm_shape.specs.NamedNet as plain;
+ghost use Rattle.xm_shape.specs.Views.{named_kind_of, names_of, named_primitive_of, table_of};
 ghost use Rattle.xm_shape.specs.Names.{number_in};
 ghost use Rattle.xm_netlist.specs.Numbered as spec;
-ghost use Rattle.xm_netlist.specs.Placed.{AreFew, component_seen, naming_seen, part_number_seen, with_images, with_marks};
-ghost use Rattle.xm_netlist.specs.Tests.{capacity_in, form_capacity};
+ghost use Rattle.xm_netlist.specs.Inner.Placed.{AreFew, numbered_component, naming_from, numbered_primitive, with_images, with_marks};
+ghost use Rattle.xm_netlist.specs.Checks.{capacity_in, form_capacity};
 
 use indexmap::IndexSet;
 use std::alloc::Global;
 use xm_model::{List, Names, OutOfMemory, Prim, SourceMode, Text};
-use xm_shape::{Form, Image, Part, path_text};
+use xm_shape::{MapEntry, NamedKind, NamedPrimitive};
 
 /// The names that a draft numbers: the number of a name is its place.
 #[derive(Drop)]
@@ -25,13 +26,13 @@ pub(crate) struct Numbers {
 
 impl Numbers {
     ghost use Rattle.std.specs.Prelude.{◌≡◌};
-    ghost use Rattle.xm_shape.specs.Drafted.{names_seen};
+    ghost use Rattle.xm_shape.specs.Views.{names_of};
     ghost use Rattle.xm_shape.specs.Names.{number_in};
-    ghost use Rattle.xm_netlist.specs.Placed.{AreFew};
+    ghost use Rattle.xm_netlist.specs.Inner.Placed.{AreFew};
 
     fn channel(&self, name: &str) -> u32
         requires { AreFew self.now }
-        ensures { result ≡ number_in (names_seen self.now.channels.keys) name.now }
+        ensures { result ≡ number_in (names_of self.now.channels.keys) name.now }
     {
         number(&self.channels, name) as u32
     }
@@ -39,15 +40,15 @@ impl Numbers {
 
 /// The number of a name among the names, and their count where it is none of them.
 pub(crate) fn number(names: &IndexSet<String>, name: &str) -> usize
-    ensures number { result ≡ number_in (names_seen names.now.keys) name.now }
+    ensures number { result ≡ number_in (names_of names.now.keys) name.now }
     ensures within { result ≤ length names.now.keys }
 {
     names.get_index_of(name).unwrap_or(names.len())
 }
 
 fn colour(names: &IndexSet<String>, name: &str) -> u8
-    requires { length names.now.keys ≤ 64 }
-    ensures { result ≡ number_in (names_seen names.now.keys) name.now }
+    requires { length names.now.keys ≤ most_colours }
+    ensures { result ≡ number_in (names_of names.now.keys) name.now }
 {
     number(names, name) as u8
 }
@@ -58,8 +59,8 @@ fn colour_numbers(
     known: &IndexSet<String>,
     names: &[String],
 ) -> Result<List<u8>, OutOfMemory>
-    requires { length known.now.keys ≤ 64 }
-    ensures { IfOk result (λ l. l.items ≡ map (number_in (names_seen known.now.keys)) (names_seen names.now)) }
+    requires { length known.now.keys ≤ most_colours }
+    ensures { IfOk result (λ l. l.items ≡ map (number_in (names_of known.now.keys)) (names_of names.now)) }
 {
     let mut numbers = List::new(alloc);
     for name in names {
@@ -88,9 +89,9 @@ pub(crate) fn set_at<T: Drop>(items: &mut [T], place: usize, value: T)
     }
 }
 
-fn set_images(images: &mut [u8], known: &IndexSet<String>, table: &[Image])
-    requires { length known.now.keys ≤ 64 }
-    ensures { images.new ≡ with_images (names_seen known.now.keys) (table_seen table.now) images.old }
+fn set_images(images: &mut [u8], known: &IndexSet<String>, table: &[MapEntry])
+    requires { length known.now.keys ≤ most_colours }
+    ensures { images.new ≡ with_images (names_of known.now.keys) (table_of table.now) images.old }
 {
     for image in table {
         let value = colour(known, image.image.as_str());
@@ -102,10 +103,10 @@ fn set_images(images: &mut [u8], known: &IndexSet<String>, table: &[Image])
 fn images_of(
     alloc: Global,
     known: &IndexSet<String>,
-    table: &[Image],
+    table: &[MapEntry],
 ) -> Result<List<u8>, OutOfMemory>
-    requires { length known.now.keys ≤ 64 }
-    ensures { IfOk result (λ l. l.items ≡ spec.images_of (names_seen known.now.keys) (table_seen table.now)) }
+    requires { length known.now.keys ≤ most_colours }
+    ensures { IfOk result (λ l. l.items ≡ spec.images_of (names_of known.now.keys) (table_of table.now)) }
 {
     let mut images = numbers_below(alloc, known.len() as u8)?;
     set_images(images.as_mut_slice(), known, table);
@@ -113,23 +114,11 @@ fn images_of(
 }
 
 fn set_marks(marks: &mut [bool], known: &IndexSet<String>, names: &[String])
-    ensures { marks.new ≡ with_marks (names_seen known.now.keys) (names_seen names.now) marks.old }
+    ensures { marks.new ≡ with_marks (names_of known.now.keys) (names_of names.now) marks.old }
 {
     for name in names {
         set_at(marks, number(known, name.as_str()), true);
     }
-}
-
-/// So many copies of a value.
-pub(crate) fn filled<T: Copy>(alloc: Global, n: usize, value: T) -> Result<List<T>, OutOfMemory>
-    ensures { IfOk result (λ l. l.items ≡ replicate n value) }
-{
-    let mut items = List::new(alloc);
-    for k in 0..n {
-        let _count = k;
-        items.push(value)?;
-    }
-    Ok(items)
 }
 
 /// For each colour whether it is among the names.
@@ -138,9 +127,10 @@ pub(crate) fn marks_of(
     known: &IndexSet<String>,
     names: &[String],
 ) -> Result<List<bool>, OutOfMemory>
-    ensures { IfOk result (λ l. l.items ≡ spec.marks_of (names_seen known.now.keys) (names_seen names.now)) }
+    requires { length known.now.keys ≤ most_colours }
+    ensures { IfOk result (λ l. l.items ≡ spec.marks_of (names_of known.now.keys) (names_of names.now)) }
 {
-    let mut marks = filled(alloc, known.len(), false)?;
+    let mut marks = List::filled(alloc, false, known.len() as u32)?;
     set_marks(marks.as_mut_slice(), known, names);
     Ok(marks)
 }
@@ -153,7 +143,8 @@ fn source(
     mode: SourceMode,
 ) -> Result<Prim, OutOfMemory>
     requires { AreFew numbers.now }
-    ensures { IfOk result (λ prim. component_of prim ≡ component_seen numbers.now (plain.source out.now (names_seen colours.now) mode)) }
+    ensures { IfOk result (λ prim. component_of prim
+        ≡ numbered_component numbers.now (plain.source out.now (names_of colours.now) mode)) }
 {
     let colours = colour_numbers(alloc, &numbers.colours, colours)?;
     Ok(Prim::Source {
@@ -172,7 +163,8 @@ fn queue(
     packets: &[String],
 ) -> Result<Prim, OutOfMemory>
     requires { AreFew numbers.now }
-    ensures { IfOk result (λ prim. component_of prim ≡ component_seen numbers.now (plain.queue input.now out.now capacity (names_seen packets.now))) }
+    ensures { IfOk result (λ prim. component_of prim
+        ≡ numbered_component numbers.now (plain.queue input.now out.now capacity (names_of packets.now))) }
 {
     let initial = colour_numbers(alloc, &numbers.colours, packets)?;
     Ok(Prim::Queue {
@@ -188,10 +180,11 @@ fn function(
     numbers: &Numbers,
     input: &str,
     out: &str,
-    table: &[Image],
+    table: &[MapEntry],
 ) -> Result<Prim, OutOfMemory>
     requires { AreFew numbers.now }
-    ensures { IfOk result (λ prim. component_of prim ≡ component_seen numbers.now (plain.function input.now out.now (table_seen table.now))) }
+    ensures { IfOk result (λ prim. component_of prim
+        ≡ numbered_component numbers.now (plain.function input.now out.now (table_of table.now))) }
 {
     let map = images_of(alloc, &numbers.colours, table)?;
     Ok(Prim::Function {
@@ -207,11 +200,13 @@ fn fork(
     input: &str,
     a: &str,
     b: &str,
-    table_a: &[Image],
-    table_b: &[Image],
+    table_a: &[MapEntry],
+    table_b: &[MapEntry],
 ) -> Result<Prim, OutOfMemory>
     requires { AreFew numbers.now }
-    ensures { IfOk result (λ prim. component_of prim ≡ component_seen numbers.now (plain.fork input.now a.now b.now (table_seen table_a.now) (table_seen table_b.now))) }
+    ensures { IfOk result (λ prim. component_of prim
+        ≡ numbered_component numbers.now
+        (plain.fork input.now a.now b.now (table_of table_a.now) (table_of table_b.now))) }
 {
     let map_a = images_of(alloc, &numbers.colours, table_a)?;
     let map_b = images_of(alloc, &numbers.colours, table_b)?;
@@ -233,7 +228,8 @@ fn switch(
     to_a: &[String],
 ) -> Result<Prim, OutOfMemory>
     requires { AreFew numbers.now }
-    ensures { IfOk result (λ prim. component_of prim ≡ component_seen numbers.now (plain.switch input.now a.now b.now (names_seen to_a.now))) }
+    ensures { IfOk result (λ prim. component_of prim
+        ≡ numbered_component numbers.now (plain.switch input.now a.now b.now (names_of to_a.now))) }
 {
     let to_a = marks_of(alloc, &numbers.colours, to_a)?;
     Ok(Prim::Switch {
@@ -245,39 +241,39 @@ fn switch(
 }
 
 /// The primitive of a form.
-fn component(alloc: Global, numbers: &Numbers, form: &Form) -> Result<Prim, OutOfMemory>
+fn component(alloc: Global, numbers: &Numbers, form: &NamedKind) -> Result<Prim, OutOfMemory>
     requires few { AreFew numbers.now }
-    requires small { form_capacity (form_seen form.now) ≤ 4096 }
-    ensures { IfOk result (λ prim. component_of prim ≡ component_seen numbers.now (form_seen form.now)) }
+    requires small { form_capacity (named_kind_of form.now) ≤ most_capacity }
+    ensures { IfOk result (λ prim. component_of prim ≡ numbered_component numbers.now (named_kind_of form.now)) }
 {
     match form {
-        Form::Source { out, colours, mode } => source(alloc, numbers, out, colours, *mode),
-        Form::Sink { input, mode } => Ok(Prim::Sink {
+        NamedKind::Source { out, colours, mode } => source(alloc, numbers, out, colours, *mode),
+        NamedKind::Sink { input, mode } => Ok(Prim::Sink {
             input: numbers.channel(input),
             mode: *mode,
         }),
-        Form::Queue {
+        NamedKind::Queue {
             input,
             out,
             capacity,
             packets,
         } => queue(alloc, numbers, input, out, *capacity as u32, packets),
-        Form::Function { input, out, table } => function(alloc, numbers, input, out, table),
-        Form::Fork {
+        NamedKind::Function { input, out, table } => function(alloc, numbers, input, out, table),
+        NamedKind::Fork {
             input,
             a,
             b,
             table_a,
             table_b,
         } => fork(alloc, numbers, input, a, b, table_a, table_b),
-        Form::Join { a, b, out, pass } => Ok(Prim::Join {
+        NamedKind::Join { a, b, out, pass } => Ok(Prim::Join {
             a: numbers.channel(a),
             b: numbers.channel(b),
             out: numbers.channel(out),
             pass: *pass,
         }),
-        Form::Switch { input, a, b, to_a } => switch(alloc, numbers, input, a, b, to_a),
-        Form::Merge { a, b, out } => Ok(Prim::Merge {
+        NamedKind::Switch { input, a, b, to_a } => switch(alloc, numbers, input, a, b, to_a),
+        NamedKind::Merge { a, b, out } => Ok(Prim::Merge {
             a: numbers.channel(a),
             b: numbers.channel(b),
             out: numbers.channel(out),
@@ -285,36 +281,37 @@ fn component(alloc: Global, numbers: &Numbers, form: &Form) -> Result<Prim, OutO
     }
 }
 
-/// The primitives of the parts, in their order.
+/// The primitives by number, in their order.
 pub(crate) fn components(
     alloc: Global,
     numbers: &Numbers,
-    parts: &[Part],
+    primitives: &[NamedPrimitive],
 ) -> Result<List<Prim>, OutOfMemory>
     requires few { AreFew numbers.now }
-    requires small { All (λ part. capacity_in part ≤ 4096) (map part_seen parts.now) }
-    ensures { IfOk result (λ l. map component_of l.items ≡ map (part_number_seen numbers.now) (map part_seen parts.now)) }
+    requires small { All (λ primitive. capacity_in primitive ≤ most_capacity) (map named_primitive_of primitives.now) }
+    ensures { IfOk result (λ l. map component_of l.items
+        ≡ map (numbered_primitive numbers.now) (map named_primitive_of primitives.now)) }
 {
     let mut prims = List::new(alloc);
-    for part in parts {
-        prims.push(component(alloc, numbers, &part.form)?)?;
+    for primitive in primitives {
+        prims.push(component(alloc, numbers, &primitive.form)?)?;
     }
     Ok(prims)
 }
 
 fn texts_of_names(alloc: Global, names: &IndexSet<String>) -> Result<List<Text>, OutOfMemory>
-    ensures { IfOk result (λ texts. texts_of texts.items ≡ names_seen names.now.keys) }
+    ensures { IfOk result (λ texts. texts_of texts.items ≡ names_of names.now.keys) }
 {
     let mut texts = List::new(alloc);
     for name in names.as_slice() {
-        texts.push(path_text(alloc, name.as_str())?)?;
+        texts.push(Text::from_bytes(alloc, name.as_bytes())?)?;
     }
     Ok(texts)
 }
 
 /// The names, each by its number.
 pub(crate) fn names_of(alloc: Global, numbers: &Numbers) -> Result<Names, OutOfMemory>
-    ensures { IfOk result (λ names. naming_of names ≡ naming_seen numbers.now) }
+    ensures { IfOk result (λ names. naming_of names ≡ naming_from numbers.now) }
 {
     let prims = texts_of_names(alloc, &numbers.prims)?;
     let channels = texts_of_names(alloc, &numbers.channels)?;

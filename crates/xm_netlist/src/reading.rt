@@ -1,40 +1,42 @@
 //! From bytes to a document.
 
-ghost use Rattle.std.specs.Prelude.{◌≡◌, ◌≢◌, ◌≤◌, ℕ, List as Items, Err, IfOk, codes, false, option_map};
+ghost use Rattle.std.specs.Prelude.{◌≡◌, ◌≢◌, ◌≤◌, ℕ, List as Items, Err, IfOk, OnOk, codes, false, option_map};
 ghost use Rattle.std.specs.Str.{bytes_eq};
 ghost use Rattle.serde_json.specs.Data.{depth};
 ghost use Rattle.serde_json.specs.Find.{as_object, get, get_member};
 ghost use Rattle.serde_json.specs.View.{members_view, view};
 ghost use Rattle.xm_model.specs.Net.{IsFirstFault, IsWellWired};
 ghost use Rattle.xm_model.specs.Steps.{demand};
-ghost use Rattle.xm_shape.specs.Drafted.{draft_seen};
+ghost use Rattle.xm_shape.specs.Views.{plain_net_of};
 ghost use Rattle.xm_shape.specs.Fault.{not_json};
 ghost use Rattle.xm_shape.specs.Gives.{Gives};
 ghost use Rattle.xm_netlist.specs.Documented.{doc_of};
 ghost use Rattle.xm_netlist.specs.Numbered as numbers_spec;
-ghost use Rattle.xm_netlist.specs.Making.{AreSound, IsMade, all_tests, first_tests, last_test};
+ghost use Rattle.xm_netlist.specs.Inner.Making.{AreSound, IsMade, all_tests, first_tests, last_test, later_tests};
+ghost use Rattle.xm_netlist.specs.Inner.Placed.{NumbersOf};
 ghost use Rattle.xm_netlist.specs.Reading as spec;
 ghost use Rattle.xm_netlist.specs.Valid.{IsValid};
 
 use crate::allowing::allow_of;
-use crate::colouring::coloured;
+use crate::colouring::check_colours;
 use crate::document::Document;
-use crate::naming::named;
+use crate::naming::check_names;
 use crate::numbering::{Numbers, components, names_of};
-use crate::sizes::limited;
+use crate::sizes::check_sizes;
 use serde_json::{Map, Value};
 use std::alloc::Global;
 use xm_model::{Allow, List, Names, Net, NewFault, OutOfMemory};
-use xm_shape::{DocFault, Draft, draft_of};
+use xm_shape::{DocFault, NamedNet, named_net_of};
 
 /// The net of a draft, or the fault of the first channel that is not wired.
-fn net_of(alloc: Global, draft: &Draft, numbers: &Numbers) -> Result<Net, NewFault>
-    requires { AreSound (draft_seen draft.now) numbers.now }
-    ensures net { IfOk result (λ net. net ≡ numbers_spec.net_of (draft_seen draft.now)) }
+fn net_of(alloc: Global, draft: &NamedNet, numbers: &Numbers) -> Result<Net, NewFault>
+    requires { AreSound (plain_net_of draft.now) numbers.now }
+    ensures net { IfOk result (λ net. net ≡ numbers_spec.net_of (plain_net_of draft.now)) }
     ensures wired { IfOk result IsWellWired }
-    ensures wiring { (fault : _) → result ≡ Err (NewFault.Wiring fault) → IsFirstFault (numbers_spec.net_of (draft_seen draft.now)) fault }
+    ensures wiring { (fault : _) → result ≡ Err (NewFault.Wiring fault)
+        → IsFirstFault (numbers_spec.net_of (plain_net_of draft.now)) fault }
 {
-    let prims = components(alloc, numbers, &draft.parts)?;
+    let prims = components(alloc, numbers, &draft.primitives)?;
     let channels = numbers.channels.len() as u32;
     let colours = numbers.colours.len() as u32;
     Net::new(alloc, prims, channels, colours)
@@ -48,22 +50,37 @@ struct Made {
     allow: List<Allow>,
 }
 
-/// The numbers of a draft's names, or the first fault of names, colours and sizes.
-fn tested(alloc: Global, draft: &Draft) -> Result<Numbers, DocFault>
-    ensures tested { Gives (λ _. tt) result (first_tests (draft_seen draft.now)) }
-    ensures sound { IfOk result (AreSound (draft_seen draft.now)) }
+/// The colours and sizes of a draft whose names have these numbers have no fault, or the first.
+fn check_colours_and_sizes(
+    alloc: Global,
+    draft: &NamedNet,
+    numbers: &Numbers,
+) -> Result<(), DocFault>
+    requires { NumbersOf (plain_net_of draft.now) numbers.now }
+    ensures tested { Gives (λ _. tt) result (later_tests (plain_net_of draft.now)) }
+    ensures sound { OnOk result (AreSound (plain_net_of draft.now) numbers.now) }
 {
-    let numbers = named(alloc, draft)?;
-    coloured(alloc, &numbers.colours, draft)?;
-    limited(draft, numbers.channels.len())?;
-    Ok(numbers)
+    check_colours(alloc, &numbers.colours, draft)?;
+    check_sizes(draft, numbers.channels.len())
+}
+
+/// The numbers of a draft's names, or the first fault of names, colours and sizes.
+fn check_net(alloc: Global, draft: &NamedNet) -> Result<Numbers, DocFault>
+    ensures tested { Gives (λ _. tt) result (first_tests (plain_net_of draft.now)) }
+    ensures sound { IfOk result (AreSound (plain_net_of draft.now)) }
+{
+    let numbers = check_names(alloc, draft)?;
+    match check_colours_and_sizes(alloc, draft, &numbers) {
+        Ok(()) => Ok(numbers),
+        Err(fault) => Err(fault),
+    }
 }
 
 /// What a draft makes, if its net is wired.
-fn made_of(alloc: Global, draft: &Draft, numbers: &Numbers) -> Result<Made, DocFault>
-    requires { AreSound (draft_seen draft.now) numbers.now }
-    ensures wired { Gives (λ _. tt) result (last_test (draft_seen draft.now)) }
-    ensures made { IfOk result (IsMade (draft_seen draft.now)) }
+fn made_of(alloc: Global, draft: &NamedNet, numbers: &Numbers) -> Result<Made, DocFault>
+    requires { AreSound (plain_net_of draft.now) numbers.now }
+    ensures wired { Gives (λ _. tt) result (last_test (plain_net_of draft.now)) }
+    ensures made { IfOk result (IsMade (plain_net_of draft.now)) }
 {
     let names = names_of(alloc, numbers)?;
     match net_of(alloc, draft, numbers) {
@@ -77,23 +94,24 @@ fn made_of(alloc: Global, draft: &Draft, numbers: &Numbers) -> Result<Made, DocF
 }
 
 /// What a draft makes, or its first fault.
-fn made_if_sound(alloc: Global, draft: &Draft) -> Result<Made, DocFault>
-    ensures tested { Gives (λ _. tt) result (all_tests (draft_seen draft.now)) }
-    ensures made { IfOk result (IsMade (draft_seen draft.now)) }
+fn made_if_sound(alloc: Global, draft: &NamedNet) -> Result<Made, DocFault>
+    ensures tested { Gives (λ _. tt) result (all_tests (plain_net_of draft.now)) }
+    ensures made { IfOk result (IsMade (plain_net_of draft.now)) }
 {
-    let numbers = tested(alloc, draft)?;
+    let numbers = check_net(alloc, draft)?;
     made_of(alloc, draft, &numbers)
 }
 
 /// The document that a draft makes, with its tape and proof, or the first fault of names, colours, sizes
 /// and wiring. Time grows with the length of the draft.
-pub(crate) fn numbered(
+pub(crate) fn number_net(
     alloc: Global,
-    draft: &Draft,
+    draft: &NamedNet,
     tape: Option<Value>,
     proof: Option<Value>,
 ) -> Result<Document, DocFault>
-    ensures { Gives doc_of result (spec.numbered (draft_seen draft.now) (option_map view tape) (option_map view proof)) }
+    ensures { Gives doc_of result (spec.number_net (plain_net_of draft.now) (option_map view tape)
+        (option_map view proof)) }
 {
     let it = made_if_sound(alloc, draft)?;
     Ok(Document {
@@ -114,9 +132,10 @@ fn into_members(root: Value) -> Option<Map<String, Value>>
     }
 }
 
-fn taken(members: &mut Map<String, Value>, key: &str) -> Option<Value>
+fn take_member(members: &mut Map<String, Value>, key: &str) -> Option<Value>
     ensures found { option_map view result ≡ get_member key.now (members_view members.old.entries) }
-    ensures others { (q : Items ℕ) → bytes_eq key.now q ≡ false → get_member q (members_view members.new.entries) ≡ get_member q (members_view members.old.entries) }
+    ensures others { (q : Items ℕ) → bytes_eq key.now q ≡ false → get_member q (members_view members.new.entries)
+        ≡ get_member q (members_view members.old.entries) }
 {
     members.remove(key)
 }
@@ -129,8 +148,8 @@ fn parts_for_others(root: Value) -> (Option<Value>, Option<Value>)
     let Some(mut members) = into_members(root) else {
         return (None, None);
     };
-    let tape = taken(&mut members, "tape");
-    let proof = taken(&mut members, "proof");
+    let tape = take_member(&mut members, "tape");
+    let proof = take_member(&mut members, "proof");
     (tape, proof)
 }
 
@@ -139,9 +158,9 @@ fn parts_for_others(root: Value) -> (Option<Value>, Option<Value>)
 fn document_of(alloc: Global, root: Value) -> Result<Document, DocFault>
     ensures { Gives doc_of result (spec.document_of (view root)) }
 {
-    let draft = draft_of(alloc, &root)?;
+    let draft = named_net_of(alloc, &root)?;
     let (tape, proof) = parts_for_others(root);
-    numbered(alloc, &draft, tape, proof)
+    number_net(alloc, &draft, tape, proof)
 }
 
 /// The value that the bytes are, as JSON.
@@ -172,11 +191,11 @@ pub fn read_document(alloc: Global, bytes: &[u8]) -> Result<Document, DocFault>
     document_of(alloc, root)
 }
 
-fn cloned(root: &Value, key: &str) -> Result<Option<Value>, OutOfMemory>
-    ensures { IfOk result (λ part. option_map view part ≡ get key.now (view root.now)) }
+fn clone_member(root: &Value, key: &str) -> Result<Option<Value>, OutOfMemory>
+    ensures { IfOk result (λ value. option_map view value ≡ get key.now (view root.now)) }
 {
     match root.get(key) {
-        Some(part) => Ok(Some(part.clone()?)),
+        Some(value) => Ok(Some(value.clone()?)),
         None => Ok(None),
     }
 }
@@ -185,10 +204,10 @@ fn cloned(root: &Value, key: &str) -> Result<Option<Value>, OutOfMemory>
 fn document_of_lent(alloc: Global, value: &Value) -> Result<Document, DocFault>
     ensures { Gives doc_of result (spec.document_of (view value.now)) }
 {
-    let draft = draft_of(alloc, value)?;
-    let tape = cloned(value, "tape")?;
-    let proof = cloned(value, "proof")?;
-    numbered(alloc, &draft, tape, proof)
+    let draft = named_net_of(alloc, value)?;
+    let tape = clone_member(value, "tape")?;
+    let proof = clone_member(value, "proof")?;
+    number_net(alloc, &draft, tape, proof)
 }
 
 /// The document that the value is, or the first fault, as `read_document` but never `NotJson`. The value

@@ -1,29 +1,22 @@
 //! The limits on sizes.
 
 ghost use Rattle.std.specs.Prelude.{◌≡◌, ◌≤◌, All, length, map, sum_by};
-ghost use Rattle.xm_shape.specs.Draft as plain;
-ghost use Rattle.xm_shape.specs.Drafted.{draft_seen, form_seen, part_seen};
+ghost use Rattle.xm_model.specs.Limits.{most_capacity, most_primitives};
+ghost use Rattle.xm_shape.specs.NamedNet as plain;
+ghost use Rattle.xm_shape.specs.Views.{plain_net_of, named_kind_of, named_primitive_of};
 ghost use Rattle.xm_shape.specs.Gives.{Gives};
-ghost use Rattle.xm_shape.specs.Holding.{each_holds};
-ghost use Rattle.xm_netlist.specs.Tested.{rooms_sized};
-ghost use Rattle.xm_netlist.specs.Tests as spec;
+ghost use Rattle.xm_json.specs.Holding.{each_holds};
+ghost use Rattle.xm_netlist.specs.Inner.CheckSteps.{check_rooms};
+ghost use Rattle.xm_netlist.specs.Checks as spec;
 
-use xm_shape::{DocFault, Draft, Form, Part, Which};
+use xm_model::{
+    MOST_CAPACITIES, MOST_CAPACITY, MOST_CHANNELS, MOST_COLOURS, MOST_PRIMITIVES,
+    MOST_SOURCE_COLOURS,
+};
+use xm_shape::{DocFault, NamedKind, NamedNet, NamedPrimitive, Which};
 
-const MOST_COLOURS: u64 = 64;
-
-const MOST_PRIMITIVES: u64 = 4096;
-
-const MOST_CHANNELS: u64 = 8192;
-
-const MOST_SOURCE_COLOURS: u64 = 36;
-
-const MOST_CAPACITY: u64 = 4096;
-
-const MOST_CAPACITIES: u64 = 1_000_000;
-
-fn sized(it: Which, low: u64, high: u64, count: u64) -> Result<(), DocFault>
-    ensures { Gives (λ _. tt) result (spec.sized it low high count) }
+fn check_size(it: Which, low: u64, high: u64, count: u64) -> Result<(), DocFault>
+    ensures { Gives (λ _. tt) result (spec.check_size it low high count) }
 {
     if count < low || high < count {
         return Err(DocFault::Limit(it, count));
@@ -31,15 +24,15 @@ fn sized(it: Which, low: u64, high: u64, count: u64) -> Result<(), DocFault>
     Ok(())
 }
 
-fn offers_sized(form: &Form) -> Result<(), DocFault>
-    ensures { Gives (λ _. tt) result (spec.offers_sized (form_seen form.now)) }
+fn check_offers(form: &NamedKind) -> Result<(), DocFault>
+    ensures { Gives (λ _. tt) result (spec.check_offers (named_kind_of form.now)) }
 {
     match form {
-        Form::Source { colours, .. } => {
-            sized(
+        NamedKind::Source { colours, .. } => {
+            check_size(
                 Which::SourceColours,
                 1,
-                MOST_SOURCE_COLOURS,
+                u64::from(MOST_SOURCE_COLOURS),
                 colours.len() as u64,
             )
         }
@@ -47,100 +40,121 @@ fn offers_sized(form: &Form) -> Result<(), DocFault>
     }
 }
 
-fn room_sized(form: &Form) -> Result<(), DocFault>
-    ensures { Gives (λ _. tt) result (spec.room_sized (form_seen form.now)) }
+fn check_room(form: &NamedKind) -> Result<(), DocFault>
+    ensures { Gives (λ _. tt) result (spec.check_room (named_kind_of form.now)) }
 {
     match form {
-        Form::Queue { capacity, .. } => sized(Which::Capacity, 1, MOST_CAPACITY, *capacity),
+        NamedKind::Queue { capacity, .. } => check_size(
+            Which::Capacity,
+            1,
+            u64::from(MOST_CAPACITY),
+            *capacity,
+        ),
         _ => Ok(()),
     }
 }
 
-fn packets_sized(form: &Form) -> Result<(), DocFault>
-    ensures { Gives (λ _. tt) result (spec.packets_sized (form_seen form.now)) }
+fn check_packets(form: &NamedKind) -> Result<(), DocFault>
+    ensures { Gives (λ _. tt) result (spec.check_packets (named_kind_of form.now)) }
 {
     match form {
-        Form::Queue {
+        NamedKind::Queue {
             capacity,
             packets,
             ..
-        } => sized(Which::Initial, 0, *capacity, packets.len() as u64),
+        } => check_size(Which::Initial, 0, *capacity, packets.len() as u64),
         _ => Ok(()),
     }
 }
 
-fn form_capacity(form: &Form) -> u64
-    ensures { result ≡ spec.form_capacity (form_seen form.now) }
+fn form_capacity(form: &NamedKind) -> u64
+    ensures { result ≡ spec.form_capacity (named_kind_of form.now) }
 {
     match form {
-        Form::Queue { capacity, .. } => *capacity,
+        NamedKind::Queue { capacity, .. } => *capacity,
         _ => 0,
     }
 }
 
-fn sources_sized(parts: &[Part]) -> Result<(), DocFault>
-    ensures { Gives (λ _. tt) result (each_holds spec.source_sized (map part_seen parts.now)) }
+fn check_source_sizes(primitives: &[NamedPrimitive]) -> Result<(), DocFault>
+    ensures { Gives (λ _. tt) result (each_holds spec.check_source_size (map named_primitive_of primitives.now)) }
 {
-    for part in parts {
-        offers_sized(&part.form)?;
+    for primitive in primitives {
+        check_offers(&primitive.form)?;
     }
     Ok(())
 }
 
-fn capacities_sized(parts: &[Part]) -> Result<(), DocFault>
-    ensures { Gives (λ _. tt) result (each_holds spec.capacity_sized (map part_seen parts.now)) }
+fn check_queue_sizes(primitives: &[NamedPrimitive]) -> Result<(), DocFault>
+    ensures { Gives (λ _. tt) result (each_holds spec.check_queue_size (map named_primitive_of primitives.now)) }
 {
-    for part in parts {
-        room_sized(&part.form)?;
+    for primitive in primitives {
+        check_room(&primitive.form)?;
     }
     Ok(())
 }
 
-fn initials_sized(parts: &[Part]) -> Result<(), DocFault>
-    ensures { Gives (λ _. tt) result (each_holds spec.initial_sized (map part_seen parts.now)) }
+fn check_all_packets(primitives: &[NamedPrimitive]) -> Result<(), DocFault>
+    ensures { Gives (λ _. tt) result (each_holds spec.check_queue_packets (map named_primitive_of primitives.now)) }
 {
-    for part in parts {
-        packets_sized(&part.form)?;
+    for primitive in primitives {
+        check_packets(&primitive.form)?;
     }
     Ok(())
 }
 
 /// The capacities together.
-fn capacities(parts: &[Part]) -> u64
-    requires few { length parts.now ≤ 4096 }
-    requires small { All (λ part. spec.capacity_in part ≤ 4096) (map part_seen parts.now) }
-    ensures { result ≡ sum_by spec.capacity_in (map part_seen parts.now) }
+fn capacities(primitives: &[NamedPrimitive]) -> u64
+    requires few { length primitives.now ≤ most_primitives }
+    requires small { All (λ primitive. spec.capacity_in primitive ≤ most_capacity)
+        (map named_primitive_of primitives.now) }
+    ensures { result ≡ sum_by spec.capacity_in (map named_primitive_of primitives.now) }
 {
     let mut total = 0;
-    for part in parts {
-        total += form_capacity(&part.form);
+    for primitive in primitives {
+        total += form_capacity(&primitive.form);
     }
     total
 }
 
-fn rooms_sized(parts: &[Part]) -> Result<(), DocFault>
-    requires { length parts.now ≤ 4096 }
-    ensures { Gives (λ _. tt) result (rooms_sized (map part_seen parts.now)) }
+fn check_rooms(primitives: &[NamedPrimitive]) -> Result<(), DocFault>
+    requires { length primitives.now ≤ most_primitives }
+    ensures { Gives (λ _. tt) result (check_rooms (map named_primitive_of primitives.now)) }
 {
-    capacities_sized(parts)?;
-    sized(Which::CapacitySum, 0, MOST_CAPACITIES, capacities(parts))?;
-    initials_sized(parts)
+    check_queue_sizes(primitives)?;
+    check_size(
+        Which::CapacitySum,
+        0,
+        u64::from(MOST_CAPACITIES),
+        capacities(primitives),
+    )?;
+    check_all_packets(primitives)
 }
 
 /// The sizes of a draft with so many channels are within their limits, or the first fault.
-#[tactic(auto, unfolding(crate::specs::Tests::limited))]
-pub(crate) fn limited(draft: &Draft, channels: usize) -> Result<(), DocFault>
-    requires { channels ≡ length (plain.channel_names (draft_seen draft.now).parts) }
-    ensures { Gives (λ _. tt) result (spec.limited (draft_seen draft.now)) }
+#[tactic(auto, unfolding(crate::specs::Checks::check_sizes))]
+pub(crate) fn check_sizes(draft: &NamedNet, channels: usize) -> Result<(), DocFault>
+    requires { channels ≡ length (plain.channel_names (plain_net_of draft.now).primitives) }
+    ensures { Gives (λ _. tt) result (spec.check_sizes (plain_net_of draft.now)) }
 {
-    sized(Which::Colours, 1, MOST_COLOURS, draft.colours.len() as u64)?;
-    sized(
+    check_size(
+        Which::Colours,
+        1,
+        u64::from(MOST_COLOURS),
+        draft.colours.len() as u64,
+    )?;
+    check_size(
         Which::Primitives,
         1,
-        MOST_PRIMITIVES,
-        draft.parts.len() as u64,
+        u64::from(MOST_PRIMITIVES),
+        draft.primitives.len() as u64,
     )?;
-    sized(Which::Channels, 1, MOST_CHANNELS, channels as u64)?;
-    sources_sized(&draft.parts)?;
-    rooms_sized(&draft.parts)
+    check_size(
+        Which::Channels,
+        1,
+        u64::from(MOST_CHANNELS),
+        channels as u64,
+    )?;
+    check_source_sizes(&draft.primitives)?;
+    check_rooms(&draft.primitives)
 }

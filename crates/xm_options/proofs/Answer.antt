@@ -11,9 +11,9 @@ use Rattle.std.proofs.lemmas.Slice.Eq.{bytes_eq-Decides}
 use Rattle.clap.specs.Faults.{fault_of}
 use Rattle.clap.specs.Simple.{matches_of}
 use Rattle.clap.specs.Walk.{Text, first_of}
-use Rattle.xm_options.specs.Command.{command_with}
+use Rattle.xm_options.specs.Inner.Command.{command_with}
 use Rattle.xm_options.specs.Grammar.{Given, are_known, are_new, given_from, is_among, is_decimal, is_fitting, is_known, number_in, options_in, starts_as_number, text_in, values_of}
-use Rattle.xm_options.specs.Words.{is_dashes}
+use Rattle.xm_options.specs.Inner.Words.{is_dashes}
 use Rattle.xm_options.specs.declared.option.LongOption.{LongOption}
 use Rattle.xm_options.proofs.Given.{are_undashed}
 use Rattle.xm_options.proofs.Law.{is_taken, takes_given}

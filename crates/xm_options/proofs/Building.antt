@@ -3,7 +3,7 @@ use Rattle.std.proofs.Common.{◌≡◌, ◌∙◌, ℕ, ◌+◌, ◌<◌, List,
 use Rattle.std.proofs.lemmas.List.{map-append, take_more}
 use Rattle.clap.specs.Simple.{App, with_rule}
 use Rattle.clap.specs.Walk.{Rule}
-use Rattle.xm_options.specs.Command.{command_with, rule_for}
+use Rattle.xm_options.specs.Inner.Command.{command_with, rule_for}
 use Rattle.xm_options.specs.declared.option.LongOption.{LongOption}
 
 -- the command with one more option

@@ -8,13 +8,13 @@ use Rattle.clap.specs.Simple.{App, matches_of, names_of}
 use Rattle.clap.specs.Takes.{is_given}
 use Rattle.clap.specs.Walk.{Held, Row, Rule, Text, has_row, idle, nothing_held, rows_after, with_default}
 use Rattle.clap.proofs.FaultLemmas.{leaf_fault}
-use Rattle.xm_options.specs.Command.{command_with}
+use Rattle.xm_options.specs.Inner.Command.{command_with}
 use Rattle.xm_options.specs.Grammar.{Given, are_known, are_new, given_from}
 use Rattle.xm_options.specs.declared.option.LongOption.{LongOption}
 use Rattle.xm_options.proofs.Given.{are_undashed, pass_both, passes}
 use Rattle.xm_options.proofs.Rules.{built_is, built_rule, rules_of, shape_of}
 use Rattle.xm_options.proofs.Taken.{Passes, both_none, taken}
-use Rattle.xm_options.specs.Words.{is_dashes}
+use Rattle.xm_options.specs.Inner.Words.{is_dashes}
 use Rattle.xm_options.proofs.Turns.{standing}
 use Rattle.xm_options.proofs.Uses.{rows_of}
 

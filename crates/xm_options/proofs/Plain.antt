@@ -10,10 +10,10 @@ use Rattle.std.proofs.lemmas.List.Folds.{list_all-map}
 use Rattle.std.proofs.lemmas.Slice.Eq.{bytes_eq-Decides}
 use Rattle.std.proofs.lemmas.Str.{IsUtf8-from_ascii, IsUtf8-from_is_utf8, is_utf8-from_IsUtf8}
 use Rattle.clap.specs.Walk.{Text}
-use Rattle.xm_model.specs.Listing.{Listing}
+use Rattle.xm_model.specs.ListView.{ListView}
 use Rattle.xm_model.specs.Naming.{texts_of}
 use Rattle.xm_options.specs.Grammar.{Given, are_known, are_named, behind_dashes, given_from, is_decimal, is_equals, is_known, is_name, options_in, starts_as_number}
-use Rattle.xm_options.specs.Words.{is_dashes, is_plain}
+use Rattle.xm_options.specs.Inner.Words.{is_dashes, is_plain}
 use Rattle.xm_options.specs.declared.option.LongOption.{LongOption}
 use Rattle.xm_options.proofs.Answer.{answered, are_decimal, decimal, some_from, undashed_from}
 use Rattle.xm_options.proofs.Given.{parts, waiting_known}
@@ -25,10 +25,10 @@ plain_text word utf8 whole = rw (is_utf8-from_IsUtf8 word utf8, whole) refl
 pub not_text : (word : Text) → ¬ (IsUtf8 word) → is_plain word ≡ false
 not_text word none = and_left (is_utf8 word) _ (false_from_ne_true (is_utf8 word) (λ utf8. none (IsUtf8-from_is_utf8 word utf8)))
 
-pub no_dashes : (words : List (Listing ℕ)) → list_all (λ word. is_plain word.items) words ≡ true → list_any is_dashes (texts_of words) ≡ false
+pub no_dashes : (words : List (ListView ℕ)) → list_all (λ word. is_plain word.items) words ≡ true → list_any is_dashes (texts_of words) ≡ false
 no_dashes [] plain = refl
 no_dashes (word ∷ rest) plain =
-    let both = and_parts (is_plain word.items) (list_all (λ (w : Listing ℕ). is_plain w.items) rest) plain in
+    let both = and_parts (is_plain word.items) (list_all (λ (w : ListView ℕ). is_plain w.items) rest) plain in
     let here = not-true (is_dashes word.items) (and_parts (is_utf8 word.items) (not (is_dashes word.items)) both.0).1 in
     or_from (is_dashes word.items) _ here (no_dashes rest both.1)
 
@@ -157,7 +157,7 @@ module _ (options : List LongOption) (named : are_named options ≡ true) where
   all_plain (word ∷ rest) waiting given is known numbers = word_plain word rest (all_plain rest) waiting given is known numbers
 
   -- words that clap may not be given have no answer
-  pub not_plain_none : (words : List (Listing ℕ)) → list_all (λ word. is_plain word.items) words ≡ false → None ≡ options_in options (texts_of words)
+  pub not_plain_none : (words : List (ListView ℕ)) → list_all (λ word. is_plain word.items) words ≡ false → None ≡ options_in options (texts_of words)
   not_plain_none words plain = go (options_in options (texts_of words)) refl
     where
       go : (o : Option (List (Option ℕ))) → options_in options (texts_of words) ≡ o → None ≡ o
@@ -165,5 +165,5 @@ module _ (options : List LongOption) (named : are_named options ≡ true) where
       go (Some values) e =
           let a = answered options (texts_of words) values e in
           let all : list_all is_plain (texts_of words) ≡ true = all_plain (texts_of words) None a.given a.are_given a.known (decimal options (texts_of words) a) in
-          let same = list_all-map is_plain (λ (word : Listing ℕ). word.items) words in
+          let same = list_all-map is_plain (λ (word : ListView ℕ). word.items) words in
           absurd (cc)

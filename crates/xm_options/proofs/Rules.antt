@@ -7,7 +7,7 @@ use Rattle.std.proofs.lemmas.Slice.Eq.{bytes_eq-Decides}
 use Rattle.clap.specs.Simple.{App, Shape, built, filled, filled_from, is_buildable, is_ready, is_ready_leaf, new_shape}
 use Rattle.clap.specs.Faults.{is_free_app, is_simple_and_free}
 use Rattle.clap.specs.Walk.{Rule, arg_by_id, arg_by_index, arg_by_long, arg_by_short, is_early_multiple}
-use Rattle.xm_options.specs.Command.{command_with, rule_for}
+use Rattle.xm_options.specs.Inner.Command.{command_with, rule_for}
 use Rattle.xm_options.specs.Grammar.{is_known}
 use Rattle.xm_options.specs.declared.option.LongOption.{LongOption}
 

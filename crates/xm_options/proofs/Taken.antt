@@ -12,7 +12,7 @@ use Rattle.clap.specs.declared.error.kind.ErrorKind.TheVariants.{ArgumentConflic
 use Rattle.xm_options.specs.Grammar.{Given, are_known, are_new, given_from, is_among, is_known, more_given}
 use Rattle.xm_options.specs.declared.option.LongOption.{LongOption}
 use Rattle.xm_options.proofs.Rules.{built_rule, rules_of, shape_of}
-use Rattle.xm_options.specs.Words.{is_dashes}
+use Rattle.xm_options.specs.Inner.Words.{is_dashes}
 use Rattle.xm_options.proofs.Turns.{IsPlain, after, after_option, after_text, option_turn, refused_turn, standing, stray_turn, turn, unknown_turn, word_cases}
 use Rattle.xm_options.proofs.Uses.{holding, rows_of, settle_faults, settles_to, use_faults, used_once}
 use Rattle.xm_options.proofs.Words.{given_next}

@@ -9,7 +9,7 @@ use Rattle.clap.specs.Lexer.{long_of, short_of}
 use Rattle.clap.specs.Walk.{Held, Row, Text, Waiting, Walk, Outcome, bundle_met, bundle_step, idle, option, plain, plain_word, positional, reacted, settled, subcommand_met, subcommand_or_other, walked}
 use Rattle.clap.specs.declared.error.kind.ErrorKind.TheVariants.{UnknownArgument}
 use Rattle.xm_options.specs.Grammar.{is_known}
-use Rattle.xm_options.specs.Words.{is_dashes}
+use Rattle.xm_options.specs.Inner.Words.{is_dashes}
 use Rattle.xm_options.specs.declared.option.LongOption.{LongOption}
 use Rattle.xm_options.proofs.Rules.{built_rule, found_by_id, found_by_long, none_by_index, none_by_short, rules_of, shape_of}
 use Rattle.xm_options.proofs.Uses.{holding}

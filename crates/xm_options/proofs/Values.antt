@@ -6,7 +6,7 @@ use Rattle.std.proofs.lemmas.Bool.{and_parts, cases_Bool, leb-true}
 use Rattle.std.proofs.lemmas.List.{length-map}
 use Rattle.std.proofs.lemmas.Option.{same_Some, slice_get-map}
 use Rattle.clap.specs.Walk.{Text}
-use Rattle.xm_model.specs.Listing.{Listing}
+use Rattle.xm_model.specs.ListView.{ListView}
 use Rattle.xm_options.specs.Grammar.{AreWithin, Given, NoOptions, are_known, are_new, behind_dashes, decimal_of, given_from, is_equals, is_in_range, number_in, options_in, text_in, value_of, values_of}
 use Rattle.xm_options.specs.declared.option.LongOption.{LongOption}
 use Rattle.xm_options.proofs.Answer.{answer_is, answered, some_from}
@@ -21,8 +21,8 @@ values_are options words values e =
     let is : values_of (text_in a.given) options ≡ Some values = answer_is options words a.given a.are_given a.known a.new ∙ e in
     same_Some _ _ (some_from _ (Some (map (value_of (text_in a.given)) options)) values is).1
 
-pub each : (options : List LongOption) (words : List Text) (answer : Option (Listing (Option ℕ))) → option_map (λ (values : Listing (Option ℕ)). values.items) answer ≡ options_in options words
-    → IfSome answer (λ (values : Listing (Option ℕ)). length values.items ≡ length options)
+pub each : (options : List LongOption) (words : List Text) (answer : Option (ListView (Option ℕ))) → option_map (λ (values : ListView (Option ℕ)). values.items) answer ≡ options_in options words
+    → IfSome answer (λ (values : ListView (Option ℕ)). length values.items ≡ length options)
 each options words None e = tt
 each options words (Some values) e =
     let is = values_are options words values.items (sym e) in
@@ -40,8 +40,8 @@ number_within option (Some text) number e = go (decimal_of text) e
         let same : n ≡ number = same_Some n number is.1 in
         (subst (λ k. option.low ≤ k) same (leb-true option.low n both.0), subst (λ k. k ≤ option.high) same (leb-true n option.high both.1))
 
-pub within : (options : List LongOption) (words : List Text) (answer : Option (Listing (Option ℕ))) → option_map (λ (values : Listing (Option ℕ)). values.items) answer ≡ options_in options words
-    → IfSome answer (λ (values : Listing (Option ℕ)). AreWithin options values.items)
+pub within : (options : List LongOption) (words : List Text) (answer : Option (ListView (Option ℕ))) → option_map (λ (values : ListView (Option ℕ)). values.items) answer ≡ options_in options words
+    → IfSome answer (λ (values : ListView (Option ℕ)). AreWithin options values.items)
 within options words None e = tt
 within options words (Some values) e = λ i option number at there.
     let texts = text_in (answered options words values.items (sym e)).given in

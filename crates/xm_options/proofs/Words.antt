@@ -8,7 +8,7 @@ use Rattle.std.proofs.lemmas.Slice.Eq.{bytes_eq-Decides}
 use Rattle.clap.specs.Lexer.{long_of, name_and_value, short_of}
 use Rattle.clap.specs.Walk.{Text}
 use Rattle.xm_options.specs.Grammar.{Given, behind_dashes, given_from, is_equals, more_given}
-use Rattle.xm_options.specs.Words.{is_dashes}
+use Rattle.xm_options.specs.Inner.Words.{is_dashes}
 
 long_is : (word : Text) → long_of word ≡ option_map name_and_value (behind_dashes word)
 long_is [] = refl

@@ -2,7 +2,7 @@
 
 ghost use Rattle.std.specs.Prelude.{◌≡◌, [], take, IfOk};
 ghost use Rattle.clap.specs.Simple.{app_of, with_rule};
-ghost use Rattle.xm_options.specs.Command.{command_with, rule_for};
+ghost use Rattle.xm_options.specs.Inner.Command.{command_with, rule_for};
 
 use crate::option::LongOption;
 use clap::{Arg, ArgAction, Command};

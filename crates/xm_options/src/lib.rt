@@ -12,6 +12,3 @@ mod read;
 
 pub use option::LongOption;
 pub use read::{no_options, read_options};
-
-#[cfg(test)]
-mod tests;

@@ -5,7 +5,7 @@ ghost use Rattle.std.specs.List.{list_all, list_any};
 ghost use Rattle.clap.specs.Matches.{found_of, first_value};
 ghost use Rattle.xm_model.specs.Naming.{texts_of};
 ghost use Rattle.xm_options.specs.Grammar.{AreWithin, NoOptions, are_named, options_in, values_of as values_by};
-ghost use Rattle.xm_options.specs.Words.{is_plain, is_dashes};
+ghost use Rattle.xm_options.specs.Inner.Words.{is_plain, is_dashes};
 
 use crate::command::command_of;
 use crate::number::number_in;

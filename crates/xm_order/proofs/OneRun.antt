@@ -6,12 +6,12 @@ use Rattle.xm_model.specs.Net.{IsNet, Network}
 use Rattle.xm_model.specs.Next.{next, reset}
 use Rattle.xm_model.specs.Run.{IsRun}
 use Rattle.xm_model.specs.Signals.{Signals}
-use Rattle.xm_model.specs.declared.parts.Choice.{Choice}
+use Rattle.xm_model.specs.declared.state.Choice.{Choice}
 use Rattle.xm_order.specs.Dependence.{IsOrder}
 use Rattle.xm_order.specs.OneFrame.{OneFrame, SameFrame}
 use Rattle.xm_order.specs.declared.signal.Signal.{Signal}
 use Rattle.xm_order.specs.OneRun.{OneRun}
-use Rattle.xm_order.specs.SameNext.{next_same}
+use Rattle.xm_order.specs.Lemmas.SameNext.{next_same}
 
 module _ (one_frame : OneFrame) (net : Network) (signals : List Signal) (cycles : ℕ) (w : ℕ → ℕ → Choice) (is_net : IsNet net) (order : IsOrder net signals) where
   abbrev frame_in : (ℕ → Content) → ℕ → Signals

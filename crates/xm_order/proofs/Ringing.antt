@@ -3,10 +3,10 @@ use Rattle.std.proofs.Common.{◌≡◌, ℕ, suc, ◌+◌, ◌-◌, ◌<◌, �
 use Rattle.std.proofs.lemmas.List.{length-take-le, take-append-drop}
 use Rattle.std.proofs.lemmas.Option.{slice_get_within}
 use Rattle.xm_model.specs.Net.{Network}
-use Rattle.xm_order.proofs.Places.{append_cases, get-append_left, get-append_right}
+use Rattle.xm_order.specs.Lemmas.Items.{append_cases, get-append_left, get-append_right}
 use Rattle.xm_order.specs.Dependence.{Depends}
 use Rattle.xm_order.specs.Loop.{IsLoop, rank}
-use Rattle.xm_order.specs.Path.{IsPath, IsRing, LastNeeds}
+use Rattle.xm_order.specs.Inner.Path.{IsPath, IsRing, LastNeeds}
 use Rattle.xm_order.specs.declared.signal.Signal.{Signal}
 
 -- the end of a path from a signal on which its last depends

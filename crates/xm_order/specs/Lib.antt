@@ -1,11 +1,8 @@
 pub mod Dependence
-pub mod Induction
-pub mod Listed
+pub mod Inner
+pub mod Lemmas
 pub mod Loop
 pub mod OneFrame
 pub mod OneRun
-pub mod Path
-pub mod SameNext
 pub mod Settle
 pub mod Sides
-pub mod Walk

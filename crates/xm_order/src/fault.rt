@@ -1,5 +1,8 @@
 //! Why a net has no order.
 
+ghost use Rattle.std.specs.Prelude.{◌≡◌};
+ghost use Rattle.xm_order.specs.declared.fault.OrderFault.TheVariants as fault;
+
 use crate::signal::Signal;
 use xm_model::{List, OutOfMemory};
 
@@ -11,9 +14,6 @@ pub enum OrderFault {
 }
 
 impl From<OutOfMemory> for OrderFault {
-    ghost use Rattle.std.specs.Prelude.{◌≡◌};
-    ghost use Rattle.xm_order.specs.declared.fault.OrderFault.TheVariants as fault;
-
     ghost from_gives = { λ _ f. f ≡ fault.OutOfMemory };
 
     fn from(_: OutOfMemory) -> OrderFault {

@@ -4,16 +4,13 @@
 mod fault;
 mod laws;
 mod needs;
-mod ordered;
 mod ring;
 mod signal;
+mod signal_order;
 mod walk;
 
 pub use fault::OrderFault;
 pub use laws::{no_loop, one_frame, one_run, settles_all};
-pub use ordered::Order;
 pub use signal::Signal;
+pub use signal_order::Order;
 pub use walk::order;
-
-#[cfg(test)]
-mod tests;

@@ -2,9 +2,9 @@
 
 ghost use Rattle.std.specs.Prelude.{◌≡◌, ◌<◌, IfOk};
 ghost use Rattle.xm_model.specs.Component.{component_of};
-ghost use Rattle.xm_model.specs.Ports.{Drives, Takes};
+ghost use Rattle.xm_model.specs.Ports.{HasOutput, HasInput};
 ghost use Rattle.xm_order.specs.Dependence.{Depends, Needs, channel_of};
-ghost use Rattle.xm_order.specs.Listed.{ListsAll};
+ghost use Rattle.xm_order.specs.Inner.Listed.{ListsAll};
 ghost use Rattle.xm_order.specs.declared.signal.Signal.TheVariants as signal;
 
 use crate::signal::Signal;
@@ -22,7 +22,7 @@ fn listed(alloc: Global, signals: &[Signal]) -> Result<SmallVec<Signal, 3>, OutO
 
 /// The signals that the offer of a primitive on channel `c` needs.
 fn offer_needs(alloc: Global, prim: &Prim, c: u32) -> Result<SmallVec<Signal, 3>, OutOfMemory>
-    requires { Drives (component_of prim.now) c }
+    requires { HasOutput (component_of prim.now) c }
     ensures { IfOk result (λ needs. ListsAll (Needs (component_of prim.now) (signal.Offer c)) needs.items) }
 {
     match prim {
@@ -42,7 +42,7 @@ fn offer_needs(alloc: Global, prim: &Prim, c: u32) -> Result<SmallVec<Signal, 3>
 
 /// The signals that the readiness of a primitive on channel `c` needs.
 fn ready_needs(alloc: Global, prim: &Prim, c: u32) -> Result<SmallVec<Signal, 3>, OutOfMemory>
-    requires { Takes (component_of prim.now) c }
+    requires { HasInput (component_of prim.now) c }
     ensures { IfOk result (λ needs. ListsAll (Needs (component_of prim.now) (signal.Ready c)) needs.items) }
 {
     match prim {
@@ -69,7 +69,7 @@ pub fn needs_of(alloc: Global, net: &Net, it: Signal) -> Result<SmallVec<Signal,
     requires { channel_of it < net.now.channels }
     ensures { IfOk result (λ needs. ListsAll (Depends net.now it) needs.items) }
 {
-    let _channels = net.channels();
+    net.is_net();
     match it {
         Signal::Offer(c) => offer_needs(alloc, net.prim(net.initiator(c)), c),
         Signal::Ready(c) => ready_needs(alloc, net.prim(net.target(c)), c),

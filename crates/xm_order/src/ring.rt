@@ -3,9 +3,9 @@
 ghost use Rattle.std.specs.Prelude.{◌≡◌, ℕ, ◌<◌, ◌≤◌, ◌++◌, length, slice_get, IfOk, OnOk, Some};
 ghost use Rattle.xm_model.specs.Net.{Network};
 ghost use Rattle.xm_order.specs.Loop.{IsLoop, rank};
-ghost use Rattle.xm_order.specs.Path.{IsPath, IsRing, LastNeeds};
+ghost use Rattle.xm_order.specs.Inner.Path.{IsPath, IsRing, LastNeeds};
 
-use crate::signal::{Signal, place};
+use crate::signal::{Signal, rank};
 use std::alloc::Global;
 use xm_model::{List, OutOfMemory};
 
@@ -17,7 +17,7 @@ fn least(ring: &[Signal]) -> usize
 {
     let mut best = 0;
     for (k, it) in ring.iter().enumerate() {
-        if place(*it) < place(ring[best]) {
+        if rank(*it) < rank(ring[best]) {
             best = k;
         }
     }
@@ -61,7 +61,8 @@ fn place_on(path: &[Signal], it: Signal) -> usize
 /// The loop that closes where the last signal of a path depends on `it`, which stands on the path.
 pub fn loop_from(alloc: Global, path: &[Signal], it: Signal) -> Result<List<Signal>, OutOfMemory>
     requires { (k : ℕ) × (slice_get path.now k ≡ Some it) }
-    ensures { (net : Network) → IsPath net path.now → LastNeeds net path.now it → IfOk result (λ found. IsLoop net found.items) }
+    ensures { (net : Network) → IsPath net path.now → LastNeeds net path.now it
+        → IfOk result (λ found. IsLoop net found.items) }
 {
     let from = place_on(path, it);
     turned(alloc, &path[from..])

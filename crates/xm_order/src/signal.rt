@@ -23,8 +23,8 @@ impl Default for Signal {
     }
 }
 
-/// The place of a signal in the order offer 0, ready 0, offer 1, and so on.
-pub fn place(it: Signal) -> usize
+/// The rank of a signal in the order offer 0, ready 0, offer 1, and so on.
+pub fn rank(it: Signal) -> usize
     ensures { result ≡ rank it }
 {
     match it {

@@ -3,32 +3,32 @@
 ghost use Rattle.std.specs.Prelude.{◌≡◌, ◌≢◌, ℕ, ◌-◌, ◌*◌, ◌^◌, ◌<◌, [], ◌∷◌, ◌++◌, length, take, slice_get, slice_set, IfNone, IfOk, IfSome, OnOk, Some};
 ghost use Rattle.xm_order.specs.Dependence.{IsOrder, channel_of};
 ghost use Rattle.xm_order.specs.Loop.{IsLoop, rank};
-ghost use Rattle.xm_order.specs.Walk.{Advances, IsMarked, IsWalk, all_left};
-ghost use Rattle.xm_order.specs.declared.walk.Mark.TheVariants as mark;
+ghost use Rattle.xm_order.specs.Inner.Walk.{Advances, HasProgress, IsWalk, all_left};
+ghost use Rattle.xm_order.specs.declared.walk.Progress.TheVariants as reached;
 
 use crate::fault::OrderFault;
 use crate::needs::needs_of;
-use crate::ordered::Order;
 use crate::ring::loop_from;
-use crate::signal::{Signal, place};
+use crate::signal::{Signal, rank};
+use crate::signal_order::Order;
 use std::alloc::Global;
 use xm_model::{List, Net, OutOfMemory};
 
 /// Whether the walk has met a signal: not yet, it stands on the path, or it is done.
 #[derive(Clone, Copy, PartialEq, Eq)]
-pub enum Mark {
+pub enum Progress {
     Unseen,
     OnPath,
     Done,
 }
 
 /// How far the walk has come: the signals that are done, in order; the path, of which each signal depends
-/// on the next; a mark for each signal, in the order offer 0, ready 0, offer 1, and so on.
+/// on the next; the progress of each signal, in the order offer 0, ready 0, offer 1, and so on.
 #[derive(Drop)]
 pub struct Walk {
     done: List<Signal>,
     path: List<Signal>,
-    marks: List<Mark>,
+    progress: List<Progress>,
 }
 
 /// A walk that has met no signal of the net.
@@ -36,33 +36,27 @@ fn unmet(alloc: Global, net: &Net) -> Result<Walk, OutOfMemory>
     ensures walk { IfOk result (IsWalk net.now) }
     ensures path { IfOk result (λ walk. walk.path.items ≡ []) }
 {
-    let count = 2 * net.channels();
-    let mut marks = List::new(alloc);
-    marks.reserve(count)?;
-    for k in 0..count {
-        let _count = k;
-        marks.push(Mark::Unseen)?;
-    }
+    let progress = List::filled(alloc, Progress::Unseen, 2 * net.channels())?;
     Ok(Walk {
         done: List::new(alloc),
         path: List::new(alloc),
-        marks,
+        progress,
     })
 }
 
-fn put_mark(marks: &mut [Mark], it: Signal, mark: Mark)
-    requires { rank it < length marks.old }
-    ensures { marks.new ≡ slice_set marks.old (rank it) mark }
+fn put_progress(progress: &mut [Progress], it: Signal, reached: Progress)
+    requires { rank it < length progress.old }
+    ensures { progress.new ≡ slice_set progress.old (rank it) reached }
 {
-    marks[place(it)] = mark;
+    progress[rank(it)] = reached;
 }
 
 impl Walk {
-    fn mark(&self, it: Signal) -> Mark
-        requires { rank it < length self.now.marks.items }
-        ensures { IsMarked self.now.marks.items it result }
+    fn progress_of(&self, it: Signal) -> Progress
+        requires { rank it < length self.now.progress.items }
+        ensures { HasProgress self.now.progress.items it result }
     {
-        self.marks.as_slice()[place(it)]
+        self.progress.as_slice()[rank(it)]
     }
 
     /// The last signal of the path.
@@ -76,13 +70,14 @@ impl Walk {
 
     /// The first of these signals that is not done.
     fn first_undone(&self, needs: &[Signal]) -> Option<Signal>
-        requires { (k : ℕ) (τ : _) → slice_get needs.now k ≡ Some τ → rank τ < length self.now.marks.items }
-        ensures none { IfNone result ((k : ℕ) (τ : _) → slice_get needs.now k ≡ Some τ → IsMarked self.now.marks.items τ mark.Done) }
+        requires { (k : ℕ) (τ : _) → slice_get needs.now k ≡ Some τ → rank τ < length self.now.progress.items }
+        ensures none { IfNone result
+            ((k : ℕ) (τ : _) → slice_get needs.now k ≡ Some τ → HasProgress self.now.progress.items τ reached.Done) }
         ensures some { IfSome result (λ τ. (k : ℕ) × (slice_get needs.now k ≡ Some τ)) }
-        ensures undone { IfSome result (λ τ. ¬ (IsMarked self.now.marks.items τ mark.Done)) }
+        ensures undone { IfSome result (λ τ. ¬ (HasProgress self.now.progress.items τ reached.Done)) }
     {
         for need in needs {
-            if self.mark(*need) != Mark::Done {
+            if self.progress_of(*need) != Progress::Done {
                 return Some(*need);
             }
         }
@@ -91,13 +86,13 @@ impl Walk {
 
     /// Goes on to a signal that was not met.
     fn enter(&mut self, it: Signal) -> Result<(), OutOfMemory>
-        requires { rank it < length self.old.marks.items }
+        requires { rank it < length self.old.progress.items }
         ensures done { self.new.done.items ≡ self.old.done.items }
         ensures path { OnOk result (self.new.path.items ≡ self.old.path.items ++ it ∷ []) }
-        ensures marks { OnOk result (self.new.marks.items ≡ slice_set self.old.marks.items (rank it) mark.OnPath) }
+        ensures progress { OnOk result (self.new.progress.items ≡ slice_set self.old.progress.items (rank it) reached.OnPath) }
     {
         self.path.push(it)?;
-        put_mark(self.marks.as_mut_slice(), it, Mark::OnPath);
+        put_progress(self.progress.as_mut_slice(), it, Progress::OnPath);
         Ok(())
     }
 
@@ -105,15 +100,15 @@ impl Walk {
     fn finish(&mut self, last: Signal) -> Result<(), OutOfMemory>
         requires some { 0 < length self.old.path.items }
         requires short { length self.old.path.items < 2 ^ 32 }
-        requires marks { rank last < length self.old.marks.items }
+        requires progress { rank last < length self.old.progress.items }
         ensures done { OnOk result (self.new.done.items ≡ self.old.done.items ++ last ∷ []) }
         ensures path { OnOk result (self.new.path.items ≡ take (length self.old.path.items - 1) self.old.path.items) }
-        ensures marks { OnOk result (self.new.marks.items ≡ slice_set self.old.marks.items (rank last) mark.Done) }
+        ensures progress { OnOk result (self.new.progress.items ≡ slice_set self.old.progress.items (rank last) reached.Done) }
     {
         self.done.push(last)?;
         let count = self.path.len();
         self.path.truncate((count - 1) as u32);
-        put_mark(self.marks.as_mut_slice(), last, Mark::Done);
+        put_progress(self.progress.as_mut_slice(), last, Progress::Done);
         Ok(())
     }
 
@@ -123,17 +118,17 @@ impl Walk {
         requires walk { IsWalk net.now self.old }
         requires some { 0 < length self.old.path.items }
         ensures walk { OnOk result (IsWalk net.now self.new) }
-        ensures less { OnOk result (all_left self.new.marks.items < all_left self.old.marks.items) }
-        ensures advances { OnOk result (Advances self.old.marks.items self.new.marks.items) }
+        ensures less { OnOk result (all_left self.new.progress.items < all_left self.old.progress.items) }
+        ensures advances { OnOk result (Advances self.old.progress.items self.new.progress.items) }
         ensures looped { (found : _) → result ≡ Err (OrderFault.CombLoop found) → IsLoop net.now found.items }
     {
-        let _channels = net.channels();
+        net.is_net();
         let last = self.last();
         let needs = needs_of(alloc, net, last)?;
         match self.first_undone(needs.as_slice()) {
             None => self.finish(last)?,
-            Some(next) => match self.mark(next) {
-                Mark::OnPath => {
+            Some(next) => match self.progress_of(next) {
+                Progress::OnPath => {
                     let found = loop_from(alloc, self.path.as_slice(), next)?;
                     return Err(OrderFault::CombLoop(found));
                 }
@@ -150,11 +145,11 @@ impl Walk {
         requires channel { channel_of root < net.now.channels }
         ensures walk { OnOk result (IsWalk net.now self.new) }
         ensures path { OnOk result (self.new.path.items ≡ []) }
-        ensures done { OnOk result (IsMarked self.new.marks.items root mark.Done) }
-        ensures advances { OnOk result (Advances self.old.marks.items self.new.marks.items) }
+        ensures done { OnOk result (HasProgress self.new.progress.items root reached.Done) }
+        ensures advances { OnOk result (Advances self.old.progress.items self.new.progress.items) }
         ensures looped { (found : _) → result ≡ Err (OrderFault.CombLoop found) → IsLoop net.now found.items }
     {
-        let Mark::Unseen = self.mark(root) else {
+        let Progress::Unseen = self.progress_of(root) else {
             return Ok(());
         };
         self.enter(root)?;
@@ -170,7 +165,7 @@ impl Walk {
         requires path { self.old.path.items ≡ [] }
         ensures walk { OnOk result (IsWalk net.now self.new) }
         ensures path { OnOk result (self.new.path.items ≡ []) }
-        ensures done { OnOk result ((σ : _) → channel_of σ < net.now.channels → IsMarked self.new.marks.items σ mark.Done) }
+        ensures done { OnOk result ((σ : _) → channel_of σ < net.now.channels → HasProgress self.new.progress.items σ reached.Done) }
         ensures looped { (found : _) → result ≡ Err (OrderFault.CombLoop found) → IsLoop net.now found.items }
     {
         for c in 0..net.channels() {

@@ -1,4 +1,4 @@
 mod Grounds
-mod Marking
-mod RightsKept
+mod Granting
+mod RightsHold
 mod TwoCycles

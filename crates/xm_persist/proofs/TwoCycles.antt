@@ -1,12 +1,12 @@
 -- What stays from one cycle to the next, primitive by primitive.
 use Rattle.std.proofs.Common.{◌≡◌, ℕ, Bool, false, Option, Some, None, List, slice_get, length, sym, ◌∙◌, arith, [], ◌∷◌, ◌<◌, ◌≤◌, length-drop}
 use Rattle.std.proofs.lemmas.Bool.{and_right, or_cases, ltb-true, lt-ltb}
-use Rattle.xm_design.specs.Offers.{merge_again, merge_grants_a, merge_grants_b, offers, only_if-false, only_if-true, to_side_a_some, to_side_b_some}
+use Rattle.xm_design.specs.Lemmas.Offers.{merge_again, merge_grants_a, merge_grants_b, offers, only_if-false, only_if-true, to_side_a_some, to_side_b_some}
 use Rattle.xm_persist.specs.Rights.{OfferStays, ReadyStays}
 use Rattle.xm_model.specs.Frame.{ForkEquation, FunctionEquation, JoinEquation, MergeEquation, QueueEquation, SwitchEquation}
 use Rattle.xm_model.specs.Next.{joined, left, move, next_pref}
 use Rattle.xm_model.specs.Signals.{Signals, grant}
-use Rattle.xm_model.specs.declared.parts.Side.{Side}
+use Rattle.xm_model.specs.declared.primitive.Side.{Side}
 
 pub fork_a_stays : (input a b : ℕ) (ta tb : List ℕ) (φ ψ : Signals) → ForkEquation input a b ta tb φ → ForkEquation input a b ta tb ψ → OfferStays input φ ψ → ReadyStays b φ ψ → OfferStays a φ ψ
 fork_a_stays input a b ta tb φ ψ e f ip tp d offered stuck = grind (arith, offers)

@@ -1,5 +1,8 @@
 //! Why a design is not persistent.
 
+ghost use Rattle.std.specs.Prelude.{◌≡◌};
+ghost use Rattle.xm_persist.specs.declared.fault.PersistFault.TheVariants as faults;
+
 use xm_model::OutOfMemory;
 
 /// Why a design is not persistent: a channel is granted no persistent initiator, which is named.
@@ -10,9 +13,6 @@ pub enum PersistFault {
 }
 
 impl From<OutOfMemory> for PersistFault {
-    ghost use Rattle.std.specs.Prelude.{◌≡◌};
-    ghost use Rattle.xm_persist.specs.declared.fault.PersistFault.TheVariants as faults;
-
     ghost from_gives = { λ _ fault. fault ≡ faults.OutOfMemory };
 
     fn from(_: OutOfMemory) -> PersistFault {

@@ -3,12 +3,9 @@
 
 mod fault;
 mod laws;
-mod marks;
+mod persistencies;
 mod persistent;
 
 pub use fault::PersistFault;
 pub use laws::{forks_target, grants_hold, grants_hold_of_runs};
 pub use persistent::{Persistent, persist};
-
-#[cfg(test)]
-mod tests;

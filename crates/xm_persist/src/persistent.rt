@@ -1,12 +1,13 @@
 //! Designs of which every channel is persistent.
 
-ghost use Rattle.std.specs.Prelude.{◌≡◌, ◌<◌, ℕ, false, true, length, slice_get, IfNone, IfOk, IfSome, Some};
-ghost use Rattle.xm_persist.specs.Marks.{mark_in};
+ghost use Rattle.std.specs.Prelude.{◌≡◌, ◌<◌, ◌≤◌, ℕ, false, true, length, slice_get, IfNone, IfOk, IfSome, Some};
+ghost use Rattle.xm_model.specs.Limits.{most_channels};
+ghost use Rattle.xm_persist.specs.Inner.Persistencies.{granted_in};
 ghost use Rattle.xm_order.specs.declared.signal.Signal.TheVariants as signal;
 ghost use Rattle.xm_persist.specs.Rights.{AllGranted, IsFirstUngranted};
 
 use crate::fault::PersistFault;
-use crate::marks::{Mark, marks_of};
+use crate::persistencies::{Persistency, persistencies_of};
 use std::alloc::Global;
 use std::marker::Model;
 use xm_design::Design;
@@ -46,16 +47,16 @@ impl<'a> Persistent<'a> {
     }
 }
 
-/// The first channel whose initiator is not marked.
-fn first_unmarked(marks: &[Mark]) -> Option<u32>
-    requires { length marks.now < 4294967296 }
-    ensures none { IfNone result ((c : ℕ) → c < length marks.now → mark_in marks.now (signal.Offer c) ≡ true) }
-    ensures within { IfSome result (λ c. c < length marks.now) }
-    ensures unmarked { IfSome result (λ c. mark_in marks.now (signal.Offer c) ≡ false) }
-    ensures below { IfSome result (λ c. (e : ℕ) → e < c → mark_in marks.now (signal.Offer e) ≡ true) }
+/// The first channel whose initiator was not found to be granted.
+fn first_not_granted(found: &[Persistency]) -> Option<u32>
+    requires { length found.now ≤ most_channels }
+    ensures none { IfNone result ((c : ℕ) → c < length found.now → granted_in found.now (signal.Offer c) ≡ true) }
+    ensures within { IfSome result (λ c. c < length found.now) }
+    ensures ungranted { IfSome result (λ c. granted_in found.now (signal.Offer c) ≡ false) }
+    ensures below { IfSome result (λ c. (e : ℕ) → e < c → granted_in found.now (signal.Offer e) ≡ true) }
 {
-    for c in 0..marks.len() {
-        if !marks[c].initiator {
+    for c in 0..found.len() {
+        if !found[c].initiator {
             return Some(c as u32);
         }
     }
@@ -68,10 +69,10 @@ fn first_ungranted(alloc: Global, design: &Design) -> Result<Option<u32>, OutOfM
     ensures some { IfOk result (λ found. IfSome found (IsFirstUngranted design.now.net)) }
 {
     let net = design.net();
-    let _channels = net.channels();
+    net.is_net();
     let order = design.order().signals();
-    let marks = marks_of(alloc, net, order.as_slice())?;
-    Ok(first_unmarked(marks.as_slice()))
+    let found = persistencies_of(alloc, net, order.as_slice())?;
+    Ok(first_not_granted(found.as_slice()))
 }
 
 /// Whether every channel of the design is granted a persistent initiator; else the first, by number, that

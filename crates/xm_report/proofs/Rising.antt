@@ -7,9 +7,9 @@ use Rattle.std.proofs.lemmas.List.Concat.{flat_map-cons}
 use Rattle.xm_colours.specs.Family.{Rises}
 use Rattle.std.specs.List.{flat_map}
 use Rattle.std.specs.Prelude.{IsTrue, OnOk, ◌↔◌}
-use Rattle.xm_model.specs.Lines.{line}
+use Rattle.xm_model.specs.TextLines.{line}
 use Rattle.xm_model.specs.Naming.{Naming}
-use Rattle.xm_model.specs.Run.{IsIn}
+use Rattle.xm_model.specs.Membership.{IsIn}
 use Rattle.xm_report.specs.Check.{colour_if, colour_text}
 
 -- those below d

@@ -4,8 +4,8 @@ use Rattle.std.specs.List.{flat_map}
 use Rattle.xm_colours.specs.Family.{colours_at}
 use Rattle.xm_colours.specs.Pairs.{pairs}
 use Rattle.xm_design.specs.Designed.{Designed}
-use Rattle.xm_model.specs.Lines.{line, name_at}
-use Rattle.xm_model.specs.Lists.{oracles_below}
+use Rattle.xm_model.specs.TextLines.{line, name_at}
+use Rattle.xm_model.specs.Views.{oracles_below}
 use Rattle.xm_model.specs.Naming.{Naming}
 
 -- a word and a number

@@ -1,9 +1,9 @@
 -- The lines of error, one for each cause of refusal.
 use Rattle.std.specs.Prelude.{ℕ, List, [], ◌∷◌, ◌++◌, codes, decimal}
-use Rattle.xm_model.specs.Lines.{line, name_at}
+use Rattle.xm_model.specs.TextLines.{line, name_at}
 use Rattle.xm_model.specs.Naming.{Naming}
-use Rattle.xm_model.specs.declared.parts.WiringFault.{WiringFault}
-use Rattle.xm_model.specs.declared.parts.WiringFault.TheVariants.{NoInitiator, TwoInitiators, NoTarget, TwoTargets}
+use Rattle.xm_model.specs.declared.fault.WiringFault.{WiringFault}
+use Rattle.xm_model.specs.declared.fault.WiringFault.TheVariants.{NoInitiator, TwoInitiators, NoTarget, TwoTargets}
 use Rattle.xm_shape.specs.Fault as document
 use Rattle.xm_shape.specs.declared.fault.Which.{Which}
 use Rattle.xm_shape.specs.declared.fault.Which.TheVariants as which

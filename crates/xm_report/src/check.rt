@@ -3,7 +3,7 @@
 ghost use Rattle.std.specs.Prelude.{◌≡◌, ◌<◌, ℕ, ◌≤◌, ◌++◌, codes, length, IfOk, OnOk};
 ghost use Rattle.xm_colours.specs.Family.{Rises, colours_at};
 ghost use Rattle.xm_model.specs.Naming.{naming_of};
-ghost use Rattle.xm_model.specs.Run.{IsIn};
+ghost use Rattle.xm_model.specs.Membership.{IsIn};
 ghost use Rattle.xm_report.specs.Check as spec;
 ghost use Rattle.xm_report.specs.Check.{channel_line, channel_lines, colour_if, count_line};
 

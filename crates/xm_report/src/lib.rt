@@ -7,6 +7,3 @@ mod pieces;
 
 pub use check::check_text;
 pub use lines::{colour_line, document_line, loop_line, tape_line, wiring_line};
-
-#[cfg(test)]
-mod tests;

@@ -1,13 +1,12 @@
 //! The lines of error, one for each cause of refusal.
 
-ghost use Rattle.std.specs.Prelude.{◌≡◌, ◌≢◌, ◌++◌, ◌==◌, [], if◌then◌else◌, codes, Err, IfOk, OnOk, ⊤};
-ghost use Rattle.xm_model.specs.Lines.{line};
+ghost use Rattle.std.specs.Prelude.{◌≡◌, ◌++◌, ◌==◌, [], if◌then◌else◌, codes, decimal, IfOk, OnOk, Some};
+ghost use Rattle.xm_model.specs.TextLines.{line};
 ghost use Rattle.xm_model.specs.Naming.{naming_of};
 ghost use Rattle.xm_report.specs.Lines as spec;
 ghost use Rattle.xm_report.specs.Lines.{channel_fault, pair_fault, path_line, signal_text, signals_text, which_text};
-ghost use Rattle.xm_shape.specs.Fault as document;
-ghost use Rattle.xm_shape.specs.Gives.{Fails};
-ghost use Rattle.xm_tape.specs.Fault as tape;
+ghost use Rattle.xm_shape.specs.Gives.{fault_of};
+ghost use Rattle.xm_tape.specs.Gives as tape;
 
 use crate::pieces::{push_count, push_name};
 use std::alloc::Global;
@@ -163,22 +162,12 @@ fn limit_line(alloc: Global, which: Which, count: u64) -> Result<Text, OutOfMemo
     Ok(text)
 }
 
-/// One piece of bytes as a text.
-fn text_of(alloc: Global, bytes: &[u8]) -> Result<Text, OutOfMemory>
-    ensures { IfOk result (λ text. text.items ≡ bytes.now) }
-{
-    let mut text = Text::new(alloc);
-    text.push_bytes(bytes)?;
-    Ok(text)
-}
-
 /// The line of a document's first fault. Of want of memory no clause speaks.
 pub fn document_line(alloc: Global, fault: &DocFault) -> Result<Text, OutOfMemory>
-    ensures { (it : document.Fault) → Fails {Y = ⊤} fault.now (Err it) → fault.now ≢ DocFault.OutOfMemory
-        → IfOk result (λ text. text.items ≡ spec.document_line it) }
+    ensures { (it : _) → fault_of fault.now ≡ Some it → IfOk result (λ text. text.items ≡ spec.document_line it) }
 {
     match fault {
-        DocFault::NotJson => text_of(alloc, b"document: not JSON\n"),
+        DocFault::NotJson => Text::from_bytes(alloc, b"document: not JSON\n"),
         DocFault::Shape(path) => fault_at(alloc, b"document: shape", path),
         DocFault::UnknownKind(path) => fault_at(alloc, b"document: unknown kind", path),
         DocFault::UnknownColour(path) => fault_at(alloc, b"document: unknown colour", path),
@@ -186,32 +175,39 @@ pub fn document_line(alloc: Global, fault: &DocFault) -> Result<Text, OutOfMemor
         DocFault::SameName(path) => fault_at(alloc, b"document: same name", path),
         DocFault::Limit(which, count) => limit_line(alloc, *which, *count),
         DocFault::Wiring(fault, names) => wiring_line(alloc, names, *fault),
-        DocFault::OutOfMemory => text_of(alloc, b"memory\n"),
+        DocFault::OutOfMemory => Text::from_bytes(alloc, b"memory\n"),
     }
+}
+
+/// The line of a row and a number behind it, each with its words.
+fn line_in_row(
+    alloc: Global,
+    words: &[u8],
+    row: u32,
+    between: &[u8],
+    number: u64,
+) -> Result<Text, OutOfMemory>
+    ensures { IfOk result (λ text. text.items ≡ line (words.now ++ decimal row ++ between.now ++ decimal number)) }
+{
+    let mut text = Text::new(alloc);
+    text.push_bytes(words)?;
+    push_count(&mut text, u64::from(row))?;
+    text.push_bytes(between)?;
+    push_count(&mut text, number)?;
+    text.push_bytes(b"\n")?;
+    Ok(text)
 }
 
 fn row_line(alloc: Global, row: u32, bytes: u64) -> Result<Text, OutOfMemory>
     ensures { IfOk result (λ text. text.items ≡ spec.row_line row bytes) }
 {
-    let mut text = Text::new(alloc);
-    text.push_bytes(b"tape: row ")?;
-    push_count(&mut text, u64::from(row))?;
-    text.push_bytes(b" length ")?;
-    push_count(&mut text, bytes)?;
-    text.push_bytes(b"\n")?;
-    Ok(text)
+    line_in_row(alloc, b"tape: row ", row, b" length ", bytes)
 }
 
 fn mark_line(alloc: Global, row: u32, oracle: u32) -> Result<Text, OutOfMemory>
     ensures { IfOk result (λ text. text.items ≡ spec.mark_line row oracle) }
 {
-    let mut text = Text::new(alloc);
-    text.push_bytes(b"tape: mark ")?;
-    push_count(&mut text, u64::from(row))?;
-    text.push_bytes(b" ")?;
-    push_count(&mut text, u64::from(oracle))?;
-    text.push_bytes(b"\n")?;
-    Ok(text)
+    line_in_row(alloc, b"tape: mark ", row, b" ", u64::from(oracle))
 }
 
 fn cycles_line(alloc: Global, count: u64) -> Result<Text, OutOfMemory>
@@ -226,14 +222,13 @@ fn cycles_line(alloc: Global, count: u64) -> Result<Text, OutOfMemory>
 
 /// The line of a tape's first fault. Of want of memory no clause speaks.
 pub fn tape_line(alloc: Global, fault: &TapeFault) -> Result<Text, OutOfMemory>
-    ensures { (it : tape.Fault) → tape.Fails {Y = ⊤} fault.now (Err it) → fault.now ≢ TapeFault.OutOfMemory
-        → IfOk result (λ text. text.items ≡ spec.tape_line it) }
+    ensures { (it : _) → tape.fault_of fault.now ≡ Some it → IfOk result (λ text. text.items ≡ spec.tape_line it) }
 {
     match fault {
         TapeFault::TapeShape(path) => fault_at(alloc, b"tape: shape", path),
         TapeFault::TapeLimit(count) => cycles_line(alloc, *count),
         TapeFault::RowLength(row, bytes) => row_line(alloc, *row, *bytes),
         TapeFault::BadMark(row, oracle) => mark_line(alloc, *row, *oracle),
-        TapeFault::OutOfMemory => text_of(alloc, b"memory\n"),
+        TapeFault::OutOfMemory => Text::from_bytes(alloc, b"memory\n"),
     }
 }

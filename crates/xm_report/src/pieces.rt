@@ -1,20 +1,10 @@
 //! Pieces that several texts are made of.
 
-ghost use Rattle.std.specs.Prelude.{◌≡◌, ◌++◌, codes, decimal, OnOk};
-ghost use Rattle.xm_model.specs.Lines.{line, name_at};
+ghost use Rattle.std.specs.Prelude.{◌≡◌, ◌++◌, decimal, OnOk};
+ghost use Rattle.xm_model.specs.TextLines.{name_at};
 ghost use Rattle.xm_model.specs.Naming.{texts_of};
 
-use xm_model::{OutOfMemory, Text};
-
-/// The name with this number.
-fn name_of(names: &[Text], i: usize) -> &[u8]
-    ensures { result.now ≡ name_at (texts_of names.now) i }
-{
-    match names.get(i) {
-        Some(name) => name.as_bytes(),
-        None => &[],
-    }
-}
+use xm_model::{OutOfMemory, Text, name_of};
 
 /// Appends the name with this number.
 pub fn push_name(text: &mut Text, names: &[Text], i: usize) -> Result<(), OutOfMemory>

@@ -5,7 +5,7 @@ use Rattle.xm_rows.specs.declared.row.Entry.{Entry}
 use Rattle.xm_rows.specs.Row.{SparseRow, IsRow, Fits128, coefficient}
 use Rattle.xm_rows.specs.Divisor.{IsReductionOf}
 use Rattle.xm_rows.specs.Combination.{AreFactors, DifferenceFits, CombinationLeaves, IsCancelled, Overflows}
-use Rattle.xm_rows.specs.Merging.{IsMerge}
+use Rattle.xm_rows.specs.Inner.Merging.{IsMerge}
 use Rattle.xm_rows.proofs.Integers.{zero_factor}
 use Rattle.xm_rows.proofs.Factors.{factors_cancel}
 use Rattle.xm_rows.proofs.Meeting.{one_pair}

@@ -7,7 +7,7 @@ use Rattle.std.proofs.lemmas.List.Elements.{All-head, All-cons, All-nil, All-pus
 use Rattle.xm_rows.specs.declared.row.Entry.{Entry}
 use Rattle.xm_rows.specs.Row.{Fits128, IsRising, coefficient}
 use Rattle.xm_rows.specs.Combination.{DifferenceFits}
-use Rattle.xm_rows.specs.Merging.{IsMerge, StartsAt, behind}
+use Rattle.xm_rows.specs.Inner.Merging.{IsMerge, StartsAt, behind}
 use Rattle.xm_rows.proofs.Entries.{own_column, other_column, coefficient-append, coefficient_absent, rising_tail, rising_above, rising_push, later_coefficient}
 
 -- below the column `low` all is merged into out, and from it on all is left
@@ -28,24 +28,6 @@ pub record IsMerging (u : ℤ) (r : List Entry) (v : ℤ) (s out left right : Li
 
 pub all_within : {P Q : Entry → Type 0} (es : List Entry) → ((e : Entry) → P e → Q e) → All P es → All Q es
 all_within {P} {Q} es step h = All-weaker P Q step es h
-
-pub merging_none : (u : ℤ) (r : List Entry) (v : ℤ) (s : List Entry) → IsRising r → IsRising s → IsMerging u r v s [] r s
-merging_none u r v s left right =
-    record {
-      low = 0;
-      left_rising = left;
-      right_rising = right;
-      rising = tt;
-      nonzero = All-nil (λ e. e.value ≢ pos 0);
-      fit = All-nil (λ e. Fits128 e.value);
-      below = All-nil (λ e. e.column < 0);
-      left_above = λ k d within. omega arith;
-      right_above = λ k d within. omega arith;
-      left_same = λ k h. refl;
-      right_same = λ k h. refl;
-      same = λ k h. absurd (omega arith);
-      fits = λ k h. absurd (omega arith);
-    }
 
 -- ---- one row behind a column
 

@@ -1,5 +1,5 @@
-pub mod Row
-pub mod Divisor
 pub mod Combination
+pub mod Divisor
+pub mod Inner
 pub mod Points
-pub mod Merging
+pub mod Row

@@ -17,6 +17,3 @@ pub use laws::{
 };
 pub use reduce::primitive;
 pub use row::{Entry, Row};
-
-#[cfg(test)]
-mod tests;

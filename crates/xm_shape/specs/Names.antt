@@ -9,7 +9,8 @@ Name = List ℕ
 
 -- A-Z, a-z, 0-9 and _
 abbrev pub is_word_byte : ℕ → Bool
-is_word_byte c = (nat_le 65 c && nat_le c 90) || (nat_le 97 c && nat_le c 122) || (nat_le 48 c && nat_le c 57) || (c == 95)
+is_word_byte c =
+    (nat_le 65 c && nat_le c 90) || (nat_le 97 c && nat_le c 122) || (nat_le 48 c && nat_le c 57) || (c == 95)
 
 -- these and the dot
 abbrev pub is_name_byte : ℕ → Bool

@@ -1,12 +1,12 @@
 //! The ports of a draft's primitives, and the channels that they name.
 
 ghost use Rattle.std.specs.Prelude.{◌≡◌, ◌∷◌, [], IfOk, OnOk, map};
-ghost use Rattle.xm_shape.specs.Draft as plain;
-ghost use Rattle.xm_shape.specs.Drafted.{form_seen, names_seen, part_seen};
+ghost use Rattle.xm_shape.specs.NamedNet as plain;
+ghost use Rattle.xm_shape.specs.Views.{named_kind_of, names_of, named_primitive_of};
 ghost use Rattle.xm_shape.specs.Names.{first_uses};
-ghost use Rattle.xm_shape.specs.Ported.{channels_seen, port_seen, ports_seen};
+ghost use Rattle.xm_shape.specs.PortViews.{plain_channels_of, port_of, plain_ports_of};
 
-use crate::draft::{Form, Part};
+use crate::named_net::{NamedKind, NamedPrimitive};
 use indexmap::IndexSet;
 use std::alloc::Global;
 use xm_model::OutOfMemory;
@@ -27,13 +27,13 @@ pub struct Ports<'a> {
 }
 
 fn port_at<'a>(key: &'a str, channel: &'a str) -> Port<'a>
-    ensures { port_seen result ≡ (key.entry.now, channel.entry.now) }
+    ensures { port_of result ≡ (key.entry.now, channel.entry.now) }
 {
     Port { key, channel }
 }
 
 fn one<'a>(first: Port<'a>) -> Ports<'a>
-    ensures { ports_seen result ≡ port_seen first.entry ∷ [] }
+    ensures { plain_ports_of result ≡ port_of first.entry ∷ [] }
 {
     Ports {
         first,
@@ -43,7 +43,7 @@ fn one<'a>(first: Port<'a>) -> Ports<'a>
 }
 
 fn two<'a>(first: Port<'a>, second: Port<'a>) -> Ports<'a>
-    ensures { ports_seen result ≡ port_seen first.entry ∷ port_seen second.entry ∷ [] }
+    ensures { plain_ports_of result ≡ port_of first.entry ∷ port_of second.entry ∷ [] }
 {
     Ports {
         first,
@@ -53,7 +53,7 @@ fn two<'a>(first: Port<'a>, second: Port<'a>) -> Ports<'a>
 }
 
 fn three<'a>(first: Port<'a>, second: Port<'a>, third: Port<'a>) -> Ports<'a>
-    ensures { ports_seen result ≡ port_seen first.entry ∷ port_seen second.entry ∷ port_seen third.entry ∷ [] }
+    ensures { plain_ports_of result ≡ port_of first.entry ∷ port_of second.entry ∷ port_of third.entry ∷ [] }
 {
     Ports {
         first,
@@ -63,42 +63,46 @@ fn three<'a>(first: Port<'a>, second: Port<'a>, third: Port<'a>) -> Ports<'a>
 }
 
 /// The ports of a primitive, each kind's in the order of the table of kinds.
-pub fn ports_of(form: &Form) -> Ports<'_>
-    ensures { ports_seen result ≡ plain.ports_of (form_seen form.entry.now) }
+pub fn ports_of(form: &NamedKind) -> Ports<'_>
+    ensures { plain_ports_of result ≡ plain.ports_of (named_kind_of form.entry.now) }
 {
     match form {
-        Form::Source { out, .. } => one(port_at("out", out)),
-        Form::Sink { input, .. } => one(port_at("in", input)),
-        Form::Queue { input, out, .. } => two(port_at("in", input), port_at("out", out)),
-        Form::Function { input, out, .. } => two(port_at("in", input), port_at("out", out)),
-        Form::Fork { input, a, b, .. } => three(
+        NamedKind::Source { out, .. } => one(port_at("out", out)),
+        NamedKind::Sink { input, .. } => one(port_at("in", input)),
+        NamedKind::Queue { input, out, .. } => two(port_at("in", input), port_at("out", out)),
+        NamedKind::Function { input, out, .. } => two(port_at("in", input), port_at("out", out)),
+        NamedKind::Fork { input, a, b, .. } => three(
             port_at("in", input),
             port_at("a", a),
             port_at("b", b),
         ),
-        Form::Join { a, b, out, .. } => three(
+        NamedKind::Join { a, b, out, .. } => three(
             port_at("a", a),
             port_at("b", b),
             port_at("out", out),
         ),
-        Form::Switch { input, a, b, .. } => three(
+        NamedKind::Switch { input, a, b, .. } => three(
             port_at("in", input),
             port_at("a", a),
             port_at("b", b),
         ),
-        Form::Merge { a, b, out } => three(port_at("a", a), port_at("b", b), port_at("out", out)),
+        NamedKind::Merge { a, b, out } => three(
+            port_at("a", a),
+            port_at("b", b),
+            port_at("out", out),
+        ),
     }
 }
 
 fn note(alloc: Global, set: &mut IndexSet<String>, name: &str) -> Result<(), OutOfMemory>
-    ensures { OnOk result (names_seen set.new.keys ≡ first_uses (names_seen set.old.keys) (name.now ∷ [])) }
+    ensures { OnOk result (names_of set.new.keys ≡ first_uses (names_of set.old.keys) (name.now ∷ [])) }
 {
     set.insert_full(String::from_str(alloc, name)?)?;
     Ok(())
 }
 
 fn note_if(alloc: Global, set: &mut IndexSet<String>, port: Option<Port>) -> Result<(), OutOfMemory>
-    ensures { OnOk result (names_seen set.new.keys ≡ first_uses (names_seen set.old.keys) (channels_seen port.entry)) }
+    ensures { OnOk result (names_of set.new.keys ≡ first_uses (names_of set.old.keys) (plain_channels_of port.entry)) }
 {
     match port {
         Some(port) => note(alloc, set, port.channel),
@@ -106,10 +110,15 @@ fn note_if(alloc: Global, set: &mut IndexSet<String>, port: Option<Port>) -> Res
     }
 }
 
-fn note_ports(alloc: Global, set: &mut IndexSet<String>, part: &Part) -> Result<(), OutOfMemory>
-    ensures { OnOk result (names_seen set.new.keys ≡ first_uses (names_seen set.old.keys) (plain.channels_of (part_seen part.now))) }
+fn note_ports(
+    alloc: Global,
+    set: &mut IndexSet<String>,
+    primitive: &NamedPrimitive,
+) -> Result<(), OutOfMemory>
+    ensures { OnOk result (names_of set.new.keys
+        ≡ first_uses (names_of set.old.keys) (plain.channels_of (named_primitive_of primitive.now))) }
 {
-    let ports = ports_of(&part.form);
+    let ports = ports_of(&primitive.form);
     note(alloc, set, ports.first.channel)?;
     note_if(alloc, set, ports.second)?;
     note_if(alloc, set, ports.third)
@@ -117,12 +126,15 @@ fn note_ports(alloc: Global, set: &mut IndexSet<String>, part: &Part) -> Result<
 
 /// The names of channels in the order of their first uses, port by port. Time grows with the number of
 /// ports.
-pub fn channel_set(alloc: Global, parts: &[Part]) -> Result<IndexSet<String>, OutOfMemory>
-    ensures { IfOk result (λ set. names_seen set.keys ≡ plain.channel_names (map part_seen parts.now)) }
+pub fn channel_set(
+    alloc: Global,
+    primitives: &[NamedPrimitive],
+) -> Result<IndexSet<String>, OutOfMemory>
+    ensures { IfOk result (λ set. names_of set.keys ≡ plain.channel_names (map named_primitive_of primitives.now)) }
 {
     let mut set = IndexSet::new(alloc);
-    for part in parts {
-        note_ports(alloc, &mut set, part)?;
+    for primitive in primitives {
+        note_ports(alloc, &mut set, primitive)?;
     }
     Ok(set)
 }

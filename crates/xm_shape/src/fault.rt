@@ -1,9 +1,11 @@
 //! Why bytes are no document.
 
 ghost use Rattle.std.specs.Prelude.{◌≡◌};
+ghost use Rattle.xm_shape.specs.Gives.{shape_fault};
 ghost use Rattle.xm_shape.specs.declared.fault.DocFault.TheVariants as faults;
 
-use std::alloc::{AllocError, AllocFailed};
+use std::alloc::AllocFailed;
+use xm_json::PathFault;
 use xm_model::{Names, Text, WiringFault};
 
 /// What is out of its limits: the colours, the primitives or the channels of a net, the colours of a
@@ -35,14 +37,6 @@ pub enum DocFault {
     OutOfMemory,
 }
 
-impl From<AllocError> for DocFault {
-    ghost from_gives = { λ _ fault. fault ≡ faults.OutOfMemory };
-
-    fn from(_: AllocError) -> DocFault {
-        DocFault::OutOfMemory
-    }
-}
-
 impl<T: Drop> From<AllocFailed<T>> for DocFault {
     ghost from_gives = { λ _ fault. fault ≡ faults.OutOfMemory };
 
@@ -56,5 +50,16 @@ impl From<xm_model::OutOfMemory> for DocFault {
 
     fn from(_: xm_model::OutOfMemory) -> DocFault {
         DocFault::OutOfMemory
+    }
+}
+
+impl From<PathFault> for DocFault {
+    ghost from_gives = { λ fault now. now ≡ shape_fault fault };
+
+    fn from(fault: PathFault) -> DocFault {
+        match fault {
+            PathFault::Broken(path) => DocFault::Shape(path),
+            PathFault::OutOfMemory => DocFault::OutOfMemory,
+        }
     }
 }

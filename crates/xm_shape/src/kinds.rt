@@ -1,22 +1,23 @@
 //! The kinds of primitives, each with the members that it has.
 
-ghost use Rattle.std.specs.Prelude.{◌≡◌, codes, map, option_map, string_bytes};
+ghost use Rattle.std.specs.Prelude.{◌≡◌, codes, option_map};
 ghost use Rattle.serde_json.specs.View.{view};
-ghost use Rattle.xm_shape.specs.Drafted.{form_seen, names_seen, part_seen};
-ghost use Rattle.xm_shape.specs.Gives.{Gives};
-ghost use Rattle.xm_shape.specs.Kinds.{kind_seen, part_of};
+ghost use Rattle.xm_json.specs.Gives.{Gives};
+ghost use Rattle.xm_json.specs.Members as members;
+ghost use Rattle.xm_shape.specs.Views.{named_kind_of, names_of, named_primitive_of};
+ghost use Rattle.xm_shape.specs.Gives as document;
+ghost use Rattle.xm_shape.specs.Inner.Kinds.{plain_kind_of};
 ghost use Rattle.xm_shape.specs.Shape as spec;
 
-use crate::draft::{Form, Part};
 use crate::fault::DocFault;
-use crate::members::{number_member, only, table_member, text_member, texts_at, texts_member};
+use crate::members::{name_member, names_at, names_member, table_member};
 use crate::modes::{pass_member, sink_mode_member, source_mode_member};
-use crate::path::{member_text, path_text};
+use crate::named_net::{NamedKind, NamedPrimitive};
+use crate::versions::INITIAL_VERSION;
 use serde_json::Value;
 use std::alloc::Global;
-
-/// The first version in which a queue may begin with packets.
-const INITIAL_VERSION: u64 = 2;
+use xm_json::{PathFault, member_path, member_text, number_member, only, text_member};
+use xm_model::Text;
 
 /// What a primitive is, without its members.
 #[derive(Clone, Copy)]
@@ -32,7 +33,7 @@ enum Kind {
 }
 
 fn kind_of(text: &str) -> Option<Kind>
-    ensures { option_map kind_seen result ≡ spec.kind_of text.now }
+    ensures { option_map plain_kind_of result ≡ spec.kind_of text.now }
 {
     match text {
         "source" => Some(Kind::Source),
@@ -48,11 +49,11 @@ fn kind_of(text: &str) -> Option<Kind>
 }
 
 #[tactic(auto, unfolding(crate::specs::Shape::source_in))]
-fn source(alloc: Global, version: u64, path: &str, object: &Value) -> Result<Form, DocFault>
-    ensures { Gives form_seen result (spec.source_in version path.now (view object.now)) }
+fn source(alloc: Global, version: u64, path: &str, object: &Value) -> Result<NamedKind, PathFault>
+    ensures { Gives named_kind_of result (spec.source_in version path.now (view object.now)) }
 {
-    let out = text_member(alloc, path, "out", object)?;
-    let colours = texts_member(alloc, path, "colours", object)?;
+    let out = name_member(alloc, path, "out", object)?;
+    let colours = names_member(alloc, path, "colours", object)?;
     let mode = source_mode_member(alloc, version, path, object)?;
     only(
         alloc,
@@ -60,17 +61,17 @@ fn source(alloc: Global, version: u64, path: &str, object: &Value) -> Result<For
         &["colours", "kind", "mode", "name", "out"],
         object,
     )?;
-    Ok(Form::Source { out, colours, mode })
+    Ok(NamedKind::Source { out, colours, mode })
 }
 
 #[tactic(auto, unfolding(crate::specs::Shape::sink_in))]
-fn sink(alloc: Global, path: &str, object: &Value) -> Result<Form, DocFault>
-    ensures { Gives form_seen result (spec.sink_in path.now (view object.now)) }
+fn sink(alloc: Global, path: &str, object: &Value) -> Result<NamedKind, PathFault>
+    ensures { Gives named_kind_of result (spec.sink_in path.now (view object.now)) }
 {
-    let input = text_member(alloc, path, "in", object)?;
+    let input = name_member(alloc, path, "in", object)?;
     let mode = sink_mode_member(alloc, path, object)?;
     only(alloc, path, &["in", "kind", "mode", "name"], object)?;
-    Ok(Form::Sink { input, mode })
+    Ok(NamedKind::Sink { input, mode })
 }
 
 /// The packets that a queue begins with: none, where the version has none or the member is missing.
@@ -80,8 +81,8 @@ fn initial_member(
     version: u64,
     path: &str,
     object: &Value,
-) -> Result<Vec<String>, DocFault>
-    ensures { Gives (λ texts. names_seen texts.items) result
+) -> Result<Vec<String>, PathFault>
+    ensures { Gives (λ texts. names_of texts.items) result
         (spec.initial_member version path.now (view object.now)) }
 {
     if version < INITIAL_VERSION {
@@ -90,13 +91,13 @@ fn initial_member(
     let Some(value) = object.get("initial") else {
         return Ok(Vec::new(alloc));
     };
-    let place = format!(in alloc; "{path}.initial")?;
-    texts_at(alloc, place.as_str(), value)
+    let place = member_path(alloc, path, "initial")?;
+    names_at(alloc, place.as_str(), value)
 }
 
-fn only_of_queue(alloc: Global, version: u64, path: &str, object: &Value) -> Result<(), DocFault>
+fn only_of_queue(alloc: Global, version: u64, path: &str, object: &Value) -> Result<(), PathFault>
     ensures { Gives (λ _. tt) result
-        (spec.only path.now (spec.queue_members version) (view object.now)) }
+        (members.only path.now (spec.queue_members version) (view object.now)) }
 {
     if version < INITIAL_VERSION {
         only(
@@ -116,15 +117,15 @@ fn only_of_queue(alloc: Global, version: u64, path: &str, object: &Value) -> Res
 }
 
 #[tactic(auto, unfolding(crate::specs::Shape::queue_in))]
-fn queue(alloc: Global, version: u64, path: &str, object: &Value) -> Result<Form, DocFault>
-    ensures { Gives form_seen result (spec.queue_in version path.now (view object.now)) }
+fn queue(alloc: Global, version: u64, path: &str, object: &Value) -> Result<NamedKind, PathFault>
+    ensures { Gives named_kind_of result (spec.queue_in version path.now (view object.now)) }
 {
-    let input = text_member(alloc, path, "in", object)?;
-    let out = text_member(alloc, path, "out", object)?;
+    let input = name_member(alloc, path, "in", object)?;
+    let out = name_member(alloc, path, "out", object)?;
     let capacity = number_member(alloc, path, "capacity", object)?;
     let packets = initial_member(alloc, version, path, object)?;
     only_of_queue(alloc, version, path, object)?;
-    Ok(Form::Queue {
+    Ok(NamedKind::Queue {
         input,
         out,
         capacity,
@@ -133,23 +134,23 @@ fn queue(alloc: Global, version: u64, path: &str, object: &Value) -> Result<Form
 }
 
 #[tactic(auto, unfolding(crate::specs::Shape::function_in))]
-fn function(alloc: Global, path: &str, object: &Value) -> Result<Form, DocFault>
-    ensures { Gives form_seen result (spec.function_in path.now (view object.now)) }
+fn function(alloc: Global, path: &str, object: &Value) -> Result<NamedKind, PathFault>
+    ensures { Gives named_kind_of result (spec.function_in path.now (view object.now)) }
 {
-    let input = text_member(alloc, path, "in", object)?;
-    let out = text_member(alloc, path, "out", object)?;
+    let input = name_member(alloc, path, "in", object)?;
+    let out = name_member(alloc, path, "out", object)?;
     let table = table_member(alloc, path, "map", object)?;
     only(alloc, path, &["in", "kind", "map", "name", "out"], object)?;
-    Ok(Form::Function { input, out, table })
+    Ok(NamedKind::Function { input, out, table })
 }
 
 #[tactic(auto, unfolding(crate::specs::Shape::fork_in))]
-fn fork(alloc: Global, path: &str, object: &Value) -> Result<Form, DocFault>
-    ensures { Gives form_seen result (spec.fork_in path.now (view object.now)) }
+fn fork(alloc: Global, path: &str, object: &Value) -> Result<NamedKind, PathFault>
+    ensures { Gives named_kind_of result (spec.fork_in path.now (view object.now)) }
 {
-    let input = text_member(alloc, path, "in", object)?;
-    let a = text_member(alloc, path, "a", object)?;
-    let b = text_member(alloc, path, "b", object)?;
+    let input = name_member(alloc, path, "in", object)?;
+    let a = name_member(alloc, path, "a", object)?;
+    let b = name_member(alloc, path, "b", object)?;
     let table_a = table_member(alloc, path, "map_a", object)?;
     let table_b = table_member(alloc, path, "map_b", object)?;
     only(
@@ -158,7 +159,7 @@ fn fork(alloc: Global, path: &str, object: &Value) -> Result<Form, DocFault>
         &["a", "b", "in", "kind", "map_a", "map_b", "name"],
         object,
     )?;
-    Ok(Form::Fork {
+    Ok(NamedKind::Fork {
         input,
         a,
         b,
@@ -168,12 +169,12 @@ fn fork(alloc: Global, path: &str, object: &Value) -> Result<Form, DocFault>
 }
 
 #[tactic(auto, unfolding(crate::specs::Shape::join_in))]
-fn join(alloc: Global, path: &str, object: &Value) -> Result<Form, DocFault>
-    ensures { Gives form_seen result (spec.join_in path.now (view object.now)) }
+fn join(alloc: Global, path: &str, object: &Value) -> Result<NamedKind, PathFault>
+    ensures { Gives named_kind_of result (spec.join_in path.now (view object.now)) }
 {
-    let a = text_member(alloc, path, "a", object)?;
-    let b = text_member(alloc, path, "b", object)?;
-    let out = text_member(alloc, path, "out", object)?;
+    let a = name_member(alloc, path, "a", object)?;
+    let b = name_member(alloc, path, "b", object)?;
+    let out = name_member(alloc, path, "out", object)?;
     let pass = pass_member(alloc, path, object)?;
     only(
         alloc,
@@ -181,35 +182,35 @@ fn join(alloc: Global, path: &str, object: &Value) -> Result<Form, DocFault>
         &["a", "b", "kind", "name", "out", "pass"],
         object,
     )?;
-    Ok(Form::Join { a, b, out, pass })
+    Ok(NamedKind::Join { a, b, out, pass })
 }
 
 #[tactic(auto, unfolding(crate::specs::Shape::switch_in))]
-fn switch(alloc: Global, path: &str, object: &Value) -> Result<Form, DocFault>
-    ensures { Gives form_seen result (spec.switch_in path.now (view object.now)) }
+fn switch(alloc: Global, path: &str, object: &Value) -> Result<NamedKind, PathFault>
+    ensures { Gives named_kind_of result (spec.switch_in path.now (view object.now)) }
 {
-    let input = text_member(alloc, path, "in", object)?;
-    let a = text_member(alloc, path, "a", object)?;
-    let b = text_member(alloc, path, "b", object)?;
-    let to_a = texts_member(alloc, path, "to_a", object)?;
+    let input = name_member(alloc, path, "in", object)?;
+    let a = name_member(alloc, path, "a", object)?;
+    let b = name_member(alloc, path, "b", object)?;
+    let to_a = names_member(alloc, path, "to_a", object)?;
     only(
         alloc,
         path,
         &["a", "b", "in", "kind", "name", "to_a"],
         object,
     )?;
-    Ok(Form::Switch { input, a, b, to_a })
+    Ok(NamedKind::Switch { input, a, b, to_a })
 }
 
 #[tactic(auto, unfolding(crate::specs::Shape::merge_in))]
-fn merge(alloc: Global, path: &str, object: &Value) -> Result<Form, DocFault>
-    ensures { Gives form_seen result (spec.merge_in path.now (view object.now)) }
+fn merge(alloc: Global, path: &str, object: &Value) -> Result<NamedKind, PathFault>
+    ensures { Gives named_kind_of result (spec.merge_in path.now (view object.now)) }
 {
-    let a = text_member(alloc, path, "a", object)?;
-    let b = text_member(alloc, path, "b", object)?;
-    let out = text_member(alloc, path, "out", object)?;
+    let a = name_member(alloc, path, "a", object)?;
+    let b = name_member(alloc, path, "b", object)?;
+    let out = name_member(alloc, path, "out", object)?;
     only(alloc, path, &["a", "b", "kind", "name", "out"], object)?;
-    Ok(Form::Merge { a, b, out })
+    Ok(NamedKind::Merge { a, b, out })
 }
 
 fn form_of(
@@ -218,9 +219,9 @@ fn form_of(
     version: u64,
     path: &str,
     object: &Value,
-) -> Result<Form, DocFault>
-    ensures { Gives form_seen result
-        (spec.form_in (kind_seen kind) version path.now (view object.now)) }
+) -> Result<NamedKind, PathFault>
+    ensures { Gives named_kind_of result
+        (spec.form_in (plain_kind_of kind) version path.now (view object.now)) }
 {
     match kind {
         Kind::Source => source(alloc, version, path, object),
@@ -234,33 +235,47 @@ fn form_of(
     }
 }
 
+/// The text of the kind of the primitive at `path`, before it is known.
+#[tactic(auto, unfolding(crate::specs::Shape::kind_text_in))]
+fn kind_text<'v>(alloc: Global, path: &str, object: &'v Value) -> Result<&'v str, PathFault>
+    ensures { Gives (λ text. text.now) result (spec.kind_text_in path.now (view object.now)) }
+{
+    if !object.is_object() {
+        return Err(PathFault::Broken(Text::from_bytes(alloc, path.as_bytes())?));
+    }
+    text_member(alloc, path, "kind", object)
+}
+
 /// The primitive of this kind at `path`.
-fn part_of(
+#[tactic(auto, unfolding(crate::specs::Shape::primitive_of))]
+fn primitive_of(
     alloc: Global,
     kind: Kind,
     version: u64,
     path: &str,
     object: &Value,
-) -> Result<Part, DocFault>
-    ensures { Gives part_seen result
-        (part_of (kind_seen kind) version path.now (view object.now)) }
+) -> Result<NamedPrimitive, PathFault>
+    ensures { Gives named_primitive_of result
+        (spec.primitive_of (plain_kind_of kind) version path.now (view object.now)) }
 {
-    let name = text_member(alloc, path, "name", object)?;
+    let name = name_member(alloc, path, "name", object)?;
     let form = form_of(alloc, kind, version, path, object)?;
-    Ok(Part { name, form })
+    Ok(NamedPrimitive { name, form })
 }
 
 /// The primitive at `path`.
-#[tactic(auto, unfolding(crate::specs::Shape::part_at))]
-pub fn part_at(alloc: Global, version: u64, path: &str, object: &Value) -> Result<Part, DocFault>
-    ensures { Gives part_seen result (spec.part_at version path.now (view object.now)) }
+#[tactic(auto, unfolding(crate::specs::Shape::primitive_at))]
+pub fn primitive_at(
+    alloc: Global,
+    version: u64,
+    path: &str,
+    object: &Value,
+) -> Result<NamedPrimitive, DocFault>
+    ensures { document.Gives named_primitive_of result (spec.primitive_at version path.now (view object.now)) }
 {
-    if !object.is_object() {
-        return Err(DocFault::Shape(path_text(alloc, path)?));
-    }
-    let text = text_member(alloc, path, "kind", object)?;
-    match kind_of(text.as_str()) {
-        Some(kind) => part_of(alloc, kind, version, path, object),
+    let text = kind_text(alloc, path, object)?;
+    match kind_of(text) {
+        Some(kind) => Ok(primitive_of(alloc, kind, version, path, object)?),
         None => Err(DocFault::UnknownKind(member_text(alloc, path, "kind")?)),
     }
 }

@@ -1,21 +1,17 @@
-//! The shape of documents: from a JSON value to a draft of names, or to the first fault of its shape.
+//! The shape of documents: from a JSON value to a net by its names, or to the first fault of its shape.
 #![tactic(auto)]
 
 mod channels;
-mod draft;
 mod fault;
 mod kinds;
 mod members;
 mod modes;
-mod path;
+mod named_net;
 mod shape;
-mod whole;
+mod versions;
 
 pub use channels::{Port, Ports, channel_set, ports_of};
-pub use draft::{Allowing, Draft, Form, Image, Part};
 pub use fault::{DocFault, Which};
-pub use path::{member_text, path_text, place_text};
-pub use shape::draft_of;
-
-#[cfg(test)]
-mod tests;
+pub use named_net::{AllowEntry, MapEntry, NamedKind, NamedNet, NamedPrimitive};
+pub use shape::named_net_of;
+pub use versions::{FAIR_VERSION, FIRST_VERSION, INITIAL_VERSION, NEWEST_VERSION};

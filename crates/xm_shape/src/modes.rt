@@ -2,17 +2,14 @@
 
 ghost use Rattle.std.specs.Prelude.{◌≡◌, codes};
 ghost use Rattle.serde_json.specs.View.{view};
-ghost use Rattle.xm_shape.specs.Gives.{Gives};
+ghost use Rattle.xm_json.specs.Gives.{Gives};
 ghost use Rattle.xm_shape.specs.Shape as spec;
 
-use crate::fault::DocFault;
-use crate::path::member_text;
+use crate::versions::FAIR_VERSION;
 use serde_json::Value;
 use std::alloc::Global;
+use xm_json::{PathFault, member_text};
 use xm_model::{Side, SinkMode, SourceMode};
-
-/// The first version in which a source may be fair.
-const FAIR_VERSION: u64 = 3;
 
 fn source_mode_of(version: u64, text: &str) -> Option<SourceMode>
     ensures { result ≡ spec.source_mode_of version text.now }
@@ -23,7 +20,7 @@ fn source_mode_of(version: u64, text: &str) -> Option<SourceMode>
         Some(SourceMode::Eager)
     } else if text == "free" {
         Some(SourceMode::Free)
-    } else if version == FAIR_VERSION && text == "fair" {
+    } else if version >= FAIR_VERSION && text == "fair" {
         Some(SourceMode::Fair)
     } else {
         None
@@ -61,7 +58,7 @@ pub fn source_mode_member(
     version: u64,
     path: &str,
     object: &Value,
-) -> Result<SourceMode, DocFault>
+) -> Result<SourceMode, PathFault>
     ensures { Gives (λ mode. mode) result
         (spec.source_mode_member version path.now (view object.now)) }
 {
@@ -73,13 +70,13 @@ pub fn source_mode_member(
         .and_then(|text| source_mode_of(version, text))
     {
         Some(mode) => Ok(mode),
-        None => Err(DocFault::Shape(member_text(alloc, path, "mode")?)),
+        None => Err(PathFault::Broken(member_text(alloc, path, "mode")?)),
     }
 }
 
 /// The mode of the sink at `path`, which keeps where it says nothing.
 #[tactic(auto, unfolding(crate::specs::Shape::sink_mode_member))]
-pub fn sink_mode_member(alloc: Global, path: &str, object: &Value) -> Result<SinkMode, DocFault>
+pub fn sink_mode_member(alloc: Global, path: &str, object: &Value) -> Result<SinkMode, PathFault>
     ensures { Gives (λ mode. mode) result (spec.sink_mode_member path.now (view object.now)) }
 {
     let Some(value) = object.get("mode") else {
@@ -87,17 +84,17 @@ pub fn sink_mode_member(alloc: Global, path: &str, object: &Value) -> Result<Sin
     };
     match value.as_str().and_then(sink_mode_of) {
         Some(mode) => Ok(mode),
-        None => Err(DocFault::Shape(member_text(alloc, path, "mode")?)),
+        None => Err(PathFault::Broken(member_text(alloc, path, "mode")?)),
     }
 }
 
 /// The side whose colours the join at `path` passes on.
 #[tactic(auto, unfolding(crate::specs::Shape::pass_member))]
-pub fn pass_member(alloc: Global, path: &str, object: &Value) -> Result<Side, DocFault>
+pub fn pass_member(alloc: Global, path: &str, object: &Value) -> Result<Side, PathFault>
     ensures { Gives (λ side. side) result (spec.pass_member path.now (view object.now)) }
 {
     match object.get("pass").and_then(Value::as_str).and_then(side_of) {
         Some(side) => Ok(side),
-        None => Err(DocFault::Shape(member_text(alloc, path, "pass")?)),
+        None => Err(PathFault::Broken(member_text(alloc, path, "pass")?)),
     }
 }

@@ -1,84 +1,88 @@
-//! The shape of a document: from a JSON value to a draft of names, or to the first fault.
+//! The shape of a document: from a JSON value to a net by its names, or to the first fault.
 
 ghost use Rattle.std.specs.List.{list_all};
 ghost use Rattle.std.specs.Prelude.{◌≡◌, codes, map, string_bytes};
 ghost use Rattle.serde_json.specs.View.{members_view, view};
+ghost use Rattle.xm_json.specs.Gives.{Gives};
+ghost use Rattle.xm_json.specs.Path.{member_of, place_of};
+ghost use Rattle.xm_json.specs.Values.{texts_at};
 ghost use Rattle.xm_model.specs.Steps.{check, each};
-ghost use Rattle.xm_shape.specs.Drafted.{allowing_seen, draft_seen, names_seen, part_seen};
-ghost use Rattle.xm_shape.specs.Fault.{member_of, place_of};
-ghost use Rattle.xm_shape.specs.Gives.{Gives};
+ghost use Rattle.xm_shape.specs.Views.{allow_entry_of, plain_net_of, names_of, named_primitive_of, plain_root_of};
+ghost use Rattle.xm_shape.specs.Gives as document;
 ghost use Rattle.xm_shape.specs.Names.{is_among};
 ghost use Rattle.xm_shape.specs.Shape as spec;
-ghost use Rattle.xm_shape.specs.Fault.{shape};
 
 use crate::channels::channel_set;
-use crate::draft::{Allowing, Draft, Part};
 use crate::fault::DocFault;
-use crate::kinds::part_at;
-use crate::members::{list_at, only, texts_at};
-use crate::path::path_text;
-use crate::whole::whole_member;
+use crate::kinds::primitive_at;
+use crate::members::names_at;
+use crate::named_net::{AllowEntry, NamedNet, NamedPrimitive};
+use crate::versions::{FIRST_VERSION, NEWEST_VERSION};
 use indexmap::IndexSet;
 use serde_json::{Map, Value};
 use std::alloc::Global;
+use xm_json::{PathFault, has_whole, list_at, member_path, only, place_path, required};
+use xm_model::Text;
 
-/// The last version.
-const LAST_VERSION: u64 = 3;
+/// The members of the root that are read, with the primitives as they stand.
+#[derive(Drop)]
+struct Root<'v> {
+    version: u64,
+    colours: Vec<String>,
+    items: &'v [Value],
+    allow: Vec<AllowEntry>,
+}
 
 #[tactic(auto, unfolding(crate::specs::Shape::version_in))]
-fn version_in(alloc: Global, root: &Value) -> Result<u64, DocFault>
+fn version_in(alloc: Global, root: &Value) -> Result<u64, PathFault>
     ensures { Gives (λ version. version) result (spec.version_in (view root.now)) }
 {
     match root.get("version").and_then(Value::as_u64) {
-        Some(version) if 1 <= version && version <= LAST_VERSION => Ok(version),
-        _ => Err(DocFault::Shape(path_text(alloc, "version")?)),
+        Some(version) if FIRST_VERSION <= version && version <= NEWEST_VERSION => Ok(version),
+        _ => Err(PathFault::Broken(Text::from_bytes(alloc, b"version")?)),
     }
 }
 
 #[tactic(auto, unfolding(crate::specs::Shape::colours_in))]
-fn colours_in(alloc: Global, root: &Value) -> Result<Vec<String>, DocFault>
-    ensures { Gives (λ names. names_seen names.items) result (spec.colours_in (view root.now)) }
+fn colours_in(alloc: Global, root: &Value) -> Result<Vec<String>, PathFault>
+    ensures { Gives (λ names. names_of names.items) result (spec.colours_in (view root.now)) }
 {
-    match root.get("colours") {
-        Some(value) => texts_at(alloc, "colours", value),
-        None => Err(DocFault::Shape(path_text(alloc, "colours")?)),
-    }
+    let value = required(alloc, "colours", "colours", root)?;
+    names_at(alloc, "colours", value)
 }
 
-#[tactic(auto, unfolding(crate::specs::Shape::parts_in))]
-fn parts_in(alloc: Global, root: &Value) -> Result<&[Value], DocFault>
-    ensures { Gives (λ values. map view values.now) result (spec.parts_in (view root.now)) }
+#[tactic(auto, unfolding(crate::specs::Shape::primitives_in))]
+fn primitives_in(alloc: Global, root: &Value) -> Result<&[Value], PathFault>
+    ensures { Gives (λ values. map view values.now) result (spec.primitives_in (view root.now)) }
 {
-    match root.get("net") {
-        Some(value) => list_at(alloc, "net", value),
-        None => Err(DocFault::Shape(path_text(alloc, "net")?)),
-    }
+    let value = required(alloc, "net", "net", root)?;
+    list_at(alloc, "net", value)
 }
 
-fn allowed_colours(alloc: Global, channel: &str, value: &Value) -> Result<Vec<String>, DocFault>
-    ensures { Gives (λ names. names_seen names.items) result
-        (spec.texts_at (member_of (codes "allow") channel.now) (view value.now)) }
+fn allowed_colours(alloc: Global, channel: &str, value: &Value) -> Result<Vec<String>, PathFault>
+    ensures { Gives (λ names. names_of names.items) result
+        (texts_at (member_of (codes "allow") channel.now) (view value.now)) }
 {
-    let place = format!(in alloc; "allow.{channel}")?;
-    texts_at(alloc, place.as_str(), value)
+    let place = member_path(alloc, "allow", channel)?;
+    names_at(alloc, place.as_str(), value)
 }
 
-fn entries_of(alloc: Global, members: &Map<String, Value>) -> Result<Vec<Allowing>, DocFault>
-    ensures { Gives (λ entries. map allowing_seen entries.items) result
+fn entries_of(alloc: Global, members: &Map<String, Value>) -> Result<Vec<AllowEntry>, PathFault>
+    ensures { Gives (λ entries. map allow_entry_of entries.items) result
         (spec.entries_in (members_view members.now.entries)) }
 {
     let mut entries = Vec::new(alloc);
     for (key, value) in members.iter() {
         let colours = allowed_colours(alloc, key.as_str(), value)?;
         let channel = key.clone()?;
-        entries.push(Allowing { channel, colours })?;
+        entries.push(AllowEntry { channel, colours })?;
     }
     Ok(entries)
 }
 
 #[tactic(auto, unfolding(crate::specs::Shape::allow_in))]
-fn allow_in(alloc: Global, root: &Value) -> Result<Vec<Allowing>, DocFault>
-    ensures { Gives (λ entries. map allowing_seen entries.items) result
+fn allow_in(alloc: Global, root: &Value) -> Result<Vec<AllowEntry>, PathFault>
+    ensures { Gives (λ entries. map allow_entry_of entries.items) result
         (spec.allow_in (view root.now)) }
 {
     let Some(value) = root.get("allow") else {
@@ -86,68 +90,21 @@ fn allow_in(alloc: Global, root: &Value) -> Result<Vec<Allowing>, DocFault>
     };
     match value.as_object() {
         Some(members) => entries_of(alloc, members),
-        None => Err(DocFault::Shape(path_text(alloc, "allow")?)),
+        None => Err(PathFault::Broken(Text::from_bytes(alloc, b"allow")?)),
     }
 }
 
-fn part_in_net(alloc: Global, version: u64, place: usize, value: &Value) -> Result<Part, DocFault>
-    ensures { Gives part_seen result
-        (spec.part_at version (place_of spec.net place) (view value.now)) }
-{
-    let path = format!(in alloc; "net.{place}")?;
-    part_at(alloc, version, path.as_str(), value)
-}
-
-fn parts_of(alloc: Global, version: u64, values: &[Value]) -> Result<Vec<Part>, DocFault>
-    ensures { Gives (λ parts. map part_seen parts.items) result
-        (each (λ i x. spec.part_at version (place_of spec.net i) x) (map view values.now)) }
-{
-    let mut parts = Vec::new(alloc);
-    for (i, value) in values.iter().enumerate() {
-        let part = part_in_net(alloc, version, i, value)?;
-        parts.push(part)?;
-    }
-    Ok(parts)
-}
-
-fn is_channel(channels: &IndexSet<String>, name: &str) -> bool
-    ensures { result ≡ is_among (names_seen channels.now.keys) name.now }
-{
-    channels.contains(name)
-}
-
-fn are_channels(channels: &IndexSet<String>, entries: &[Allowing]) -> bool
-    ensures { result ≡ list_all (λ e. is_among (names_seen channels.now.keys) (string_bytes e.channel)) entries.now }
-{
-    entries
-        .iter()
-        .all(|entry| is_channel(channels, entry.channel.as_str()))
-}
-
-/// Each entry of `allow` is of a channel. Time grows with the number of ports and entries.
-fn check_channels(alloc: Global, parts: &[Part], entries: &[Allowing]) -> Result<(), DocFault>
-    ensures { Gives (λ _. tt) result
-        (check (spec.are_channels (map part_seen parts.now) (map allowing_seen entries.now)) (shape (codes "allow"))) }
-{
-    let channels = channel_set(alloc, parts)?;
-    if are_channels(&channels, entries) {
-        Ok(())
-    } else {
-        Err(DocFault::Shape(path_text(alloc, "allow")?))
-    }
-}
-
-/// The draft that the value is, or the first fault of its shape.
-#[tactic(auto, unfolding(crate::specs::Shape::draft_in))]
-pub fn draft_of(alloc: Global, root: &Value) -> Result<Draft, DocFault>
-    ensures { Gives draft_seen result (spec.draft_in (view root.now)) }
+/// The members of the root that are read, and no others.
+#[tactic(auto, unfolding(crate::specs::Shape::root_in))]
+fn root_in(alloc: Global, root: &Value) -> Result<Root<'_>, PathFault>
+    ensures { Gives plain_root_of result (spec.root_in (view root.now)) }
 {
     if !root.is_object() {
-        return Err(DocFault::Shape(path_text(alloc, "-")?));
+        return Err(PathFault::Broken(Text::from_bytes(alloc, b"-")?));
     }
     let version = version_in(alloc, root)?;
     let colours = colours_in(alloc, root)?;
-    let values = parts_in(alloc, root)?;
+    let items = primitives_in(alloc, root)?;
     let allow = allow_in(alloc, root)?;
     only(
         alloc,
@@ -155,13 +112,116 @@ pub fn draft_of(alloc: Global, root: &Value) -> Result<Draft, DocFault>
         &["allow", "colours", "net", "proof", "tape", "version"],
         root,
     )?;
-    let parts = parts_of(alloc, version, values)?;
-    check_channels(alloc, &parts, &allow)?;
-    whole_member(alloc, "tape", root)?;
-    whole_member(alloc, "proof", root)?;
-    Ok(Draft {
+    Ok(Root {
+        version,
         colours,
-        parts,
+        items,
         allow,
+    })
+}
+
+fn primitive_in_net(
+    alloc: Global,
+    version: u64,
+    place: usize,
+    value: &Value,
+) -> Result<NamedPrimitive, DocFault>
+    ensures { document.Gives named_primitive_of result
+        (spec.primitive_at version (place_of spec.net place) (view value.now)) }
+{
+    let path = place_path(alloc, "net", place)?;
+    primitive_at(alloc, version, path.as_str(), value)
+}
+
+fn primitives_of(
+    alloc: Global,
+    version: u64,
+    values: &[Value],
+) -> Result<Vec<NamedPrimitive>, DocFault>
+    ensures { document.Gives (λ primitives. map named_primitive_of primitives.items) result
+        (each (λ i x. spec.primitive_at version (place_of spec.net i) x) (map view values.now)) }
+{
+    let mut primitives = Vec::new(alloc);
+    for (i, value) in values.iter().enumerate() {
+        let primitive = primitive_in_net(alloc, version, i, value)?;
+        primitives.push(primitive)?;
+    }
+    Ok(primitives)
+}
+
+fn is_channel(channels: &IndexSet<String>, name: &str) -> bool
+    ensures { result ≡ is_among (names_of channels.now.keys) name.now }
+{
+    channels.contains(name)
+}
+
+fn are_channels(channels: &IndexSet<String>, entries: &[AllowEntry]) -> bool
+    ensures { result ≡ list_all (λ e. is_among (names_of channels.now.keys) (string_bytes e.channel)) entries.now }
+{
+    entries
+        .iter()
+        .all(|entry| is_channel(channels, entry.channel.as_str()))
+}
+
+/// Each entry of `allow` is of a channel. Time grows with the number of ports and entries.
+fn check_channels(
+    alloc: Global,
+    primitives: &[NamedPrimitive],
+    entries: &[AllowEntry],
+) -> Result<(), PathFault>
+    ensures { Gives (λ _. tt) result
+        (check (spec.are_channels (map named_primitive_of primitives.now) (map allow_entry_of entries.now))
+        (codes "allow")) }
+{
+    let channels = channel_set(alloc, primitives)?;
+    if are_channels(&channels, entries) {
+        Ok(())
+    } else {
+        Err(PathFault::Broken(Text::from_bytes(alloc, b"allow")?))
+    }
+}
+
+/// The member `key` of the root is missing, or has whole numbers alone.
+#[tactic(auto, unfolding(crate::specs::Shape::whole_member))]
+fn whole_member(alloc: Global, key: &str, root: &Value) -> Result<(), PathFault>
+    ensures { Gives (λ _. tt) result (spec.whole_member key.now (view root.now)) }
+{
+    match root.get(key) {
+        Some(value) if !has_whole(value) => {
+            Err(PathFault::Broken(Text::from_bytes(alloc, key.as_bytes())?))
+        }
+        _ => Ok(()),
+    }
+}
+
+/// What is tested once the primitives are read: the channels of `allow`, and the numbers within the tape
+/// and the proof.
+#[tactic(auto, unfolding(crate::specs::Shape::rest_in))]
+fn check_rest(
+    alloc: Global,
+    root: &Value,
+    primitives: &[NamedPrimitive],
+    entries: &[AllowEntry],
+) -> Result<(), PathFault>
+    ensures { Gives (λ _. tt) result
+        (spec.rest_in (map named_primitive_of primitives.now) (map allow_entry_of entries.now) (view root.now)) }
+{
+    check_channels(alloc, primitives, entries)?;
+    whole_member(alloc, "tape", root)?;
+    whole_member(alloc, "proof", root)
+}
+
+/// The draft that the value is, or the first fault of its shape.
+#[tactic(auto, unfolding(crate::specs::Shape::named_net_in))]
+pub fn named_net_of(alloc: Global, root: &Value) -> Result<NamedNet, DocFault>
+    ensures { document.Gives plain_net_of result (spec.named_net_in (view root.now)) }
+{
+    let it = root_in(alloc, root)?;
+    let primitives = primitives_of(alloc, it.version, it.items)?;
+    check_rest(alloc, root, &primitives, &it.allow)?;
+    Ok(NamedNet {
+        colours: it.colours,
+        primitives,
+        allow: it.allow,
     })
 }

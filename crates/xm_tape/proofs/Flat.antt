@@ -3,9 +3,9 @@ use Rattle.std.proofs.Common.{◌≡◌, ℕ, zero, suc, ◌+◌, ◌-◌, ◌*�
 use Rattle.std.proofs.Math.Seq.{drop-append_seam, take-length}
 use Rattle.std.proofs.lemmas.List.{drop-append-le, drop-drop, take-append-le}
 use Rattle.xm_model.specs.Component.{Component}
-use Rattle.xm_model.specs.declared.parts.Choice.{Choice}
+use Rattle.xm_model.specs.declared.state.Choice.{Choice}
 use Rattle.xm_tape.specs.Draws.{number_after, row_drawn, rows_drawn}
-use Rattle.xm_tape.specs.Flat.{IsLonger, added, rows_at}
+use Rattle.xm_tape.specs.Inner.Flat.{IsLonger, added, rows_at}
 
 -- ---- what is appended
 

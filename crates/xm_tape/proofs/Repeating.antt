@@ -5,8 +5,8 @@ use Rattle.std.proofs.Math.Nat.{add-mod_right, mod-eq_of_lt}
 use Rattle.std.proofs.Math.Seq.{get_or-append_right}
 use Rattle.std.proofs.lemmas.Bool.{lt-ltb, le-ltb, ltb-false, ltb-true}
 use Rattle.std.proofs.lemmas.List.{get_or_append_left, drop-drop}
-use Rattle.xm_model.specs.declared.parts.Choice.{Choice}
-use Rattle.xm_tape.specs.Flat.{row_kept, rows_at, taped}
+use Rattle.xm_model.specs.declared.state.Choice.{Choice}
+use Rattle.xm_tape.specs.Inner.Flat.{row_kept, rows_at, taped}
 use Rattle.xm_tape.specs.Taped.{Taped, cycles_of, repeated, rows_of}
 use Rattle.xm_tape.proofs.Flat.{length-rows_at, rows_at-read}
 

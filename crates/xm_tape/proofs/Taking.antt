@@ -2,21 +2,22 @@
 use Rattle.std.proofs.Common.{◌≡◌, ℕ, zero, suc, ◌+◌, ◌*◌, ◌≤◌, Bool, true, false, List, [], length, drop, Result, Ok, Err, refl, sym, ap, ◌∙◌, subst, arith}
 use Rattle.std.specs.Prelude.{nat_le, IfOk}
 use Rattle.std.proofs.lemmas.Bool.{leb-true}
+use Rattle.xm_json.specs.Lemmas.StepFacts.{Fails-bind, bound, checked, each_length}
 use Rattle.xm_model.specs.Component.{Component}
 use Rattle.xm_model.specs.Net.{Network}
 use Rattle.xm_model.specs.Steps.{check, each_from}
-use Rattle.xm_model.specs.declared.parts.Choice.{Choice}
+use Rattle.xm_model.specs.declared.state.Choice.{Choice}
 use Rattle.xm_tape.specs.Draws.{number_after, rows_drawn}
-use Rattle.xm_tape.specs.Fault.{Fails, Fault, Gives}
-use Rattle.xm_tape.specs.Flat.{IsLonger, added, row_of, rows_at, taped}
+use Rattle.xm_tape.specs.Fault.{Fault}
+use Rattle.xm_tape.specs.Gives.{Fails, Gives, fault_of}
+use Rattle.xm_tape.specs.Inner.Flat.{IsLonger, added, row_of, rows_at, taped}
 use Rattle.xm_tape.specs.Marks.{oracles_of, row_at}
-use Rattle.xm_tape.specs.Reading.{Draft, cycles_drafted, limited, repeating, rows_from, seeded, taped_in, written}
+use Rattle.xm_tape.specs.Reading.{Draft, cycles_drafted, check_limits, repeating, rows_from, seeded, taped_in, written}
+use Rattle.xm_tape.specs.Sizes.{most_cycles, most_cycles_by_channels}
 use Rattle.xm_tape.specs.Taped.{Fits, Taped, cycles_of}
 use Rattle.xm_tape.specs.declared.fault.TapeFault.{TapeFault}
 use Rattle.xm_tape.proofs.Fitting.{fits_taped}
 use Rattle.xm_tape.proofs.Flat.{rows_at-front}
-use Rattle.xm_tape.proofs.Steps.{bound, checked, each_length}
-use Rattle.xm_tape.proofs.Walk.{Fails-bind}
 
 -- ---- rows
 
@@ -26,13 +27,13 @@ module _ (net : Network) (stem cycle : List (List ℕ)) (times : ℕ) where
 
   pub stem_refused : (oracles : List Component) → oracles ≡ oracles_of net.prims → (e : TapeFault) → Fails e (each_from (row_of oracles) 0 stem) → Fails e (taped_in net (repeating stem cycle times))
   unfolding taped_in
-  stem_refused oracles known e fails = Fails-bind e (rows_from net 0 stem) _ (subst (Fails e) (sym (read_by oracles known 0 stem)) fails)
+  stem_refused oracles known e fails = Fails-bind fault_of e (rows_from net 0 stem) _ (subst (Fails e) (sym (read_by oracles known 0 stem)) fails)
 
   pub cycle_refused : (oracles others : List Component) → oracles ≡ oracles_of net.prims → others ≡ oracles_of net.prims → (e : TapeFault) (n : ℕ) (rows : List (List Choice)) → length stem ≡ n
       → each_from (row_of oracles) 0 stem ≡ Ok rows → Fails e (each_from (row_of others) n cycle) → Fails e (taped_in net (repeating stem cycle times))
   unfolding taped_in
   cycle_refused oracles others known same e n rows long is fails =
-      rw (read_by oracles known 0 stem ∙ is, long) (Fails-bind e (rows_from net n cycle) _ (subst (Fails e) (sym (read_by others same n cycle)) fails))
+      rw (read_by oracles known 0 stem ∙ is, long) (Fails-bind fault_of e (rows_from net n cycle) _ (subst (Fails e) (sym (read_by others same n cycle)) fails))
 
   pub both_read : (oracles others : List Component) → oracles ≡ oracles_of net.prims → others ≡ oracles_of net.prims → (n m w v u : ℕ) (old flat more : List Choice) → v ≡ w → u ≡ w → old ≡ [] → length stem ≡ n
       → length (added old flat) ≡ n * v → IsLonger old flat → IsLonger flat more → each_from (row_of oracles) 0 stem ≡ Ok (rows_at v n (added old flat))
@@ -68,29 +69,25 @@ cycles_taped net (seeded cycles seed) tape is =
     let same : record { stem = rows_drawn (oracles_of net.prims) cycles seed; cycle = []; times = 0 } ≡ tape = cc in
     subst (λ (t : Taped). cycles_of t ≡ cycles) same (omega (arith, rows_counted (oracles_of net.prims) cycles seed))
 
-held : (b : Bool) (e : Fault) → check b e ≡ Ok tt → b ≡ true
-held true e is = refl
-held false e is = absurd cc
-
-pub limits_hold : (cycles channels : ℕ) → limited cycles channels ≡ Ok tt → (cycles ≤ 10000000) × (cycles * channels ≤ 64000000)
+pub limits_hold : (cycles channels : ℕ) → check_limits cycles channels ≡ Ok tt → (cycles ≤ most_cycles) × (cycles * channels ≤ most_cycles_by_channels)
 limits_hold cycles channels is =
-    let few = checked (nat_le cycles 10000000) _ _ tt is in
-    (leb-true cycles 10000000 few.0, leb-true (cycles * channels) 64000000 (held (nat_le (cycles * channels) 64000000) _ few.1))
+    let few = bound (check (nat_le cycles most_cycles) _) _ tt is in
+    (leb-true cycles most_cycles (checked (nat_le cycles most_cycles) _ few.1), leb-true (cycles * channels) most_cycles_by_channels (checked (nat_le (cycles * channels) most_cycles_by_channels) _ few.2))
 
-pub kept_by : (cycles n channels m : ℕ) → n ≡ cycles → m ≡ channels → limited n m ≡ Ok tt → limited cycles channels ≡ Ok tt
+pub kept_by : (cycles n channels m : ℕ) → n ≡ cycles → m ≡ channels → check_limits n m ≡ Ok tt → check_limits cycles channels ≡ Ok tt
 kept_by cycles n channels m a b is = rw (← a, ← b) is
 
 -- ---- what a result that was read so is
 
-module _ (net : Network) (draft : Draft) (kept : limited (cycles_drafted draft) net.channels ≡ Ok tt) where
-  pub fits : (r : Result Taped TapeFault) → Gives (λ tape. tape) r (taped_in net draft) → IfOk r (Fits net)
-  fits (Ok tape) is = fits_taped net draft tape is
-  fits (Err fault) is = tt
+pub fits : (net : Network) (draft : Draft) (r : Result Taped TapeFault) → Gives (λ tape. tape) r (taped_in net draft) → IfOk r (Fits net)
+fits net draft (Ok tape) is = fits_taped net draft tape is
+fits net draft (Err fault) is = tt
 
-  pub few : (r : Result Taped TapeFault) → Gives (λ tape. tape) r (taped_in net draft) → IfOk r (λ tape. cycles_of tape ≤ 10000000)
+module _ (net : Network) (draft : Draft) (kept : check_limits (cycles_drafted draft) net.channels ≡ Ok tt) where
+  pub few : (r : Result Taped TapeFault) → Gives (λ tape. tape) r (taped_in net draft) → IfOk r (λ tape. cycles_of tape ≤ most_cycles)
   few (Ok tape) is = omega (arith, cycles_taped net draft tape is, (limits_hold (cycles_drafted draft) net.channels kept).0)
   few (Err fault) is = tt
 
-  pub small : (r : Result Taped TapeFault) → Gives (λ tape. tape) r (taped_in net draft) → IfOk r (λ tape. cycles_of tape * net.channels ≤ 64000000)
+  pub small : (r : Result Taped TapeFault) → Gives (λ tape. tape) r (taped_in net draft) → IfOk r (λ tape. cycles_of tape * net.channels ≤ most_cycles_by_channels)
   small (Ok tape) is = rw (cycles_taped net draft tape is) ((limits_hold (cycles_drafted draft) net.channels kept).1)
   small (Err fault) is = tt

@@ -1,8 +1,8 @@
 -- The rows of a seeded tape: draws of a linear congruential generator.
 use Rattle.std.specs.Prelude.{ℕ, zero, suc, ◌+◌, ◌*◌, ◌/◌, ◌%◌, ◌^◌, ◌==◌, List, [], ◌∷◌, length, slice_get, None}
 use Rattle.xm_model.specs.Component.{Component, Fork, Function, Join, Merge, Queue, Sink, Source, Switch}
-use Rattle.xm_model.specs.declared.parts.Choice.{Choice}
-use Rattle.xm_model.specs.declared.parts.Choice.TheVariants.{Offer, Ready}
+use Rattle.xm_model.specs.declared.state.Choice.{Choice}
+use Rattle.xm_model.specs.declared.state.Choice.TheVariants.{Offer, Ready}
 use Rattle.xm_tape.specs.Marks.{oracles_of}
 
 -- the generator's next number, of 64 bits

@@ -1,7 +1,8 @@
-pub mod Drafted
 pub mod Draws
 pub mod Fault
-pub mod Flat
+pub mod Gives
+pub mod Inner
 pub mod Marks
 pub mod Reading
+pub mod Sizes
 pub mod Taped

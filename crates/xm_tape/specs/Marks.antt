@@ -1,10 +1,10 @@
 -- The rows of a written tape: one mark for each source and sink, in primitive order.
 use Rattle.std.specs.Prelude.{ℕ, suc, ◌-◌, List, [], ◌∷◌, ◌&&◌, ◌==◌, filter, length, nat_le, if◌then◌else◌, Option, Some, None, option_and_then, option_map, slice_get, Result, Ok}
 use Rattle.xm_model.specs.Component.{Component, Fork, Function, Join, Merge, Queue, Sink, Source, Switch}
-use Rattle.xm_model.specs.Lists.{is_oracle}
+use Rattle.xm_model.specs.Views.{is_oracle}
 use Rattle.xm_model.specs.Steps.{◌>>=◌, check, demand}
-use Rattle.xm_model.specs.declared.parts.Choice.{Choice}
-use Rattle.xm_model.specs.declared.parts.Choice.TheVariants.{Offer, Ready}
+use Rattle.xm_model.specs.declared.state.Choice.{Choice}
+use Rattle.xm_model.specs.declared.state.Choice.TheVariants.{Offer, Ready}
 use Rattle.std.specs.Prelude.{true, false}
 use Rattle.xm_tape.specs.Fault.{Fault, bad_mark, row_length}
 

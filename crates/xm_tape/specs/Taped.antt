@@ -1,13 +1,13 @@
 -- A tape: the choices of a run, cycle by cycle.
 use Rattle.std.specs.Prelude.{ℕ, zero, suc, ◌+◌, ◌*◌, List, [], ◌++◌, length, slice_index_or}
 use Rattle.xm_model.specs.Component.{Component}
-use Rattle.xm_model.specs.Lists.{choice_at}
+use Rattle.xm_model.specs.Views.{choice_at}
 use Rattle.xm_model.specs.Net.{Network}
 use Rattle.xm_model.specs.Run.{TapeFits}
-use Rattle.xm_model.specs.declared.parts.Choice.{Choice}
+use Rattle.xm_model.specs.declared.state.Choice.{Choice}
 
--- A row has one choice for each source and sink, in primitive order. The rows of the stem come once, and those of the cycle, one
--- after another, so many times.
+-- A row has one choice for each source and sink, in primitive order. The rows of the stem come once, and those of the
+-- cycle, one after another, so many times.
 pub record Taped : Type 0 where
   pub stem : List (List Choice)
   pub cycle : List (List Choice)
@@ -29,6 +29,6 @@ cycles_of tape = length tape.stem + tape.times * length tape.cycle
 abbrev pub chosen : List Component → List (List Choice) → ℕ → ℕ → Choice
 chosen prims rows t p = choice_at prims (slice_index_or rows t []) p
 
--- the choices of sources are of their lists
+-- the choices of sources are of their lists, and those of sinks readiness
 abbrev pub Fits : Network → Taped → Type 0
 Fits net tape = TapeFits net (cycles_of tape) (chosen net.prims (rows_of tape))

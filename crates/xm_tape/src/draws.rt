@@ -3,8 +3,8 @@
 ghost use Rattle.std.specs.Prelude.{◌≡◌, ◌+◌, ◌*◌, ◌<◌, IfOk, OnOk, length};
 ghost use Rattle.xm_model.specs.Component.{component_of};
 ghost use Rattle.xm_tape.specs.Draws as spec;
-ghost use Rattle.xm_tape.specs.Drafted.{components_seen};
-ghost use Rattle.xm_tape.specs.Flat.{IsLonger, added, rows_at};
+ghost use Rattle.xm_tape.specs.Inner.Views.{components_of};
+ghost use Rattle.xm_tape.specs.Inner.Flat.{IsLonger, added, rows_at};
 
 use xm_model::{Choice, List, OutOfMemory, Prim};
 
@@ -48,8 +48,13 @@ fn choice_drawn(prim: &Prim, number: u64) -> Choice
 }
 
 /// Appends the row after a number, and gives the number after it.
-fn push_row(choices: &mut List<Choice>, oracles: &[&Prim], before: u64) -> Result<u64, OutOfMemory>
-    ensures row { OnOk result (added choices.old.items choices.new.items ≡ spec.row_drawn (components_seen oracles.now) before) }
+fn push_drawn_row(
+    choices: &mut List<Choice>,
+    oracles: &[&Prim],
+    before: u64,
+) -> Result<u64, OutOfMemory>
+    ensures row { OnOk result
+        (added choices.old.items choices.new.items ≡ spec.row_drawn (components_of oracles.now) before) }
     ensures number { IfOk result (λ number. number ≡ spec.number_after (length oracles.now) before) }
     ensures longer { OnOk result (IsLonger choices.old.items choices.new.items) }
     ensures whole { OnOk result (length (added choices.old.items choices.new.items) ≡ length oracles.now) }
@@ -63,38 +68,23 @@ fn push_row(choices: &mut List<Choice>, oracles: &[&Prim], before: u64) -> Resul
 }
 
 /// Appends the rows that the seed draws.
-pub fn push_rows(
+pub fn push_drawn_rows(
     choices: &mut List<Choice>,
     oracles: &[&Prim],
     cycles: u32,
     seed: u64,
 ) -> Result<(), OutOfMemory>
-    ensures rows { OnOk result (rows_at (length oracles.now) cycles (added choices.old.items choices.new.items) ≡ spec.rows_drawn (components_seen oracles.now) cycles seed) }
+    ensures rows { OnOk result
+        (rows_at (length oracles.now) cycles (added choices.old.items choices.new.items)
+        ≡ spec.rows_drawn (components_of oracles.now) cycles seed) }
     ensures longer { OnOk result (IsLonger choices.old.items choices.new.items) }
-    ensures whole { OnOk result (length (added choices.old.items choices.new.items) ≡ cycles * length oracles.now) }
+    ensures whole { OnOk result
+        (length (added choices.old.items choices.new.items) ≡ cycles * length oracles.now) }
 {
     let mut number = seed;
     for t in 0..cycles {
         let _cycle = t;
-        number = push_row(choices, oracles, number)?;
+        number = push_drawn_row(choices, oracles, number)?;
     }
     Ok(())
-}
-
-#[cfg(test)]
-mod tests {
-    use super::next_number;
-
-    #[test]
-    fn the_generator_gives_its_numbers(rt: HostRuntime) {
-        let mut number = 0;
-        for expected in [
-            1442695040888963407,
-            1876011003808476466,
-            11166244414315200793,
-        ] {
-            number = next_number(number);
-            assert_eq!(rt; number, expected);
-        }
-    }
 }

@@ -1,10 +1,11 @@
 //! Why a value is no tape.
 
 ghost use Rattle.std.specs.Prelude.{◌≡◌};
+ghost use Rattle.xm_tape.specs.Gives.{shape_fault};
 ghost use Rattle.xm_tape.specs.declared.fault.TapeFault.TheVariants as faults;
 
-use std::alloc::{AllocError, AllocFailed};
-use xm_model::Text;
+use xm_json::PathFault;
+use xm_model::{OutOfMemory, Text};
 
 /// The first fault of a tape. `TapeShape` has a path that begins with `tape`; `TapeLimit` the number that
 /// is too great: cycles, or cycles times channels; `RowLength` a row and its length in bytes; `BadMark` a
@@ -19,26 +20,21 @@ pub enum TapeFault {
     OutOfMemory,
 }
 
-impl From<AllocError> for TapeFault {
+impl From<OutOfMemory> for TapeFault {
     ghost from_gives = { λ _ fault. fault ≡ faults.OutOfMemory };
 
-    fn from(_: AllocError) -> TapeFault {
+    fn from(_: OutOfMemory) -> TapeFault {
         TapeFault::OutOfMemory
     }
 }
 
-impl<T: Drop> From<AllocFailed<T>> for TapeFault {
-    ghost from_gives = { λ _ fault. fault ≡ faults.OutOfMemory };
+impl From<PathFault> for TapeFault {
+    ghost from_gives = { λ fault now. now ≡ shape_fault fault };
 
-    fn from(_: AllocFailed<T>) -> TapeFault {
-        TapeFault::OutOfMemory
-    }
-}
-
-impl From<xm_model::OutOfMemory> for TapeFault {
-    ghost from_gives = { λ _ fault. fault ≡ faults.OutOfMemory };
-
-    fn from(_: xm_model::OutOfMemory) -> TapeFault {
-        TapeFault::OutOfMemory
+    fn from(fault: PathFault) -> TapeFault {
+        match fault {
+            PathFault::Broken(path) => TapeFault::TapeShape(path),
+            PathFault::OutOfMemory => TapeFault::OutOfMemory,
+        }
     }
 }

@@ -4,15 +4,13 @@
 mod draft;
 mod draws;
 mod fault;
+mod limits;
 mod marks;
 mod oracles;
-mod path;
 mod read;
 mod tape;
 
 pub use fault::TapeFault;
+pub use limits::{MOST_CYCLES, MOST_CYCLES_BY_CHANNELS};
 pub use read::read_tape;
 pub use tape::Tape;
-
-#[cfg(test)]
-mod tests;

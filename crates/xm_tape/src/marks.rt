@@ -1,11 +1,13 @@
 //! The rows of a written tape: from marks to choices.
 
 ghost use Rattle.std.specs.Prelude.{◌≡◌, ◌+◌, ◌*◌, ◌<◌, ◌≤◌, ◌^◌, OnOk, length};
+ghost use Rattle.xm_json.specs.Lent.{lent_texts};
 ghost use Rattle.xm_model.specs.Component.{component_of};
+ghost use Rattle.xm_model.specs.Limits.{most_primitives};
 ghost use Rattle.xm_model.specs.Steps.{each_from};
-ghost use Rattle.xm_tape.specs.Drafted.{components_seen, texts_seen};
-ghost use Rattle.xm_tape.specs.Fault.{Gives};
-ghost use Rattle.xm_tape.specs.Flat.{IsLonger, added, row_of, rows_at};
+ghost use Rattle.xm_tape.specs.Inner.Views.{components_of};
+ghost use Rattle.xm_tape.specs.Gives.{Gives};
+ghost use Rattle.xm_tape.specs.Inner.Flat.{IsLonger, added, row_of, rows_at};
 ghost use Rattle.xm_tape.specs.Marks as spec;
 
 use crate::fault::TapeFault;
@@ -63,9 +65,10 @@ fn push_marks(
     row: u32,
     marks: &[u8],
 ) -> Result<(), TapeFault>
-    requires few { length oracles.now ≤ 4096 }
+    requires few { length oracles.now ≤ most_primitives }
     requires same { length marks.now ≡ length oracles.now }
-    ensures exact { Gives (λ _. added choices.old.items choices.new.items) result (spec.marks_from row 0 (components_seen oracles.now) marks.now) }
+    ensures exact { Gives (λ _. added choices.old.items choices.new.items) result
+        (spec.marks_from row 0 (components_of oracles.now) marks.now) }
     ensures longer { OnOk result (IsLonger choices.old.items choices.new.items) }
     ensures whole { OnOk result (length (added choices.old.items choices.new.items) ≡ length oracles.now) }
 {
@@ -79,14 +82,15 @@ fn push_marks(
 }
 
 /// Appends the choices of a row, whose length is tested first.
-fn push_row(
+fn push_marked_row(
     choices: &mut List<Choice>,
     oracles: &[&Prim],
     row: u32,
     text: &str,
 ) -> Result<(), TapeFault>
-    requires { length oracles.now ≤ 4096 }
-    ensures exact { Gives (λ _. added choices.old.items choices.new.items) result (row_of (components_seen oracles.now) row text.now) }
+    requires { length oracles.now ≤ most_primitives }
+    ensures exact { Gives (λ _. added choices.old.items choices.new.items) result
+        (row_of (components_of oracles.now) row text.now) }
     ensures longer { OnOk result (IsLonger choices.old.items choices.new.items) }
     ensures whole { OnOk result (length (added choices.old.items choices.new.items) ≡ length oracles.now) }
 {
@@ -98,21 +102,23 @@ fn push_row(
 }
 
 /// Appends the choices of the rows, the first of which is row number `first`.
-pub fn push_rows(
+pub fn push_marked_rows(
     choices: &mut List<Choice>,
     oracles: &[&Prim],
     first: u32,
     texts: &[&str],
 ) -> Result<(), TapeFault>
-    requires few { length oracles.now ≤ 4096 }
+    requires few { length oracles.now ≤ most_primitives }
     requires counted { first + length texts.now < 2 ^ 32 }
-    ensures exact { Gives (λ _. rows_at (length oracles.now) (length texts.now) (added choices.old.items choices.new.items)) result
-        (each_from (row_of (components_seen oracles.now)) first (texts_seen texts.now)) }
+    ensures exact { Gives
+        (λ _. rows_at (length oracles.now) (length texts.now) (added choices.old.items choices.new.items)) result
+        (each_from (row_of (components_of oracles.now)) first (lent_texts texts.now)) }
     ensures longer { OnOk result (IsLonger choices.old.items choices.new.items) }
-    ensures whole { OnOk result (length (added choices.old.items choices.new.items) ≡ length texts.now * length oracles.now) }
+    ensures whole { OnOk result
+        (length (added choices.old.items choices.new.items) ≡ length texts.now * length oracles.now) }
 {
     for (i, text) in texts.iter().enumerate() {
-        push_row(choices, oracles, first + i as u32, text)?;
+        push_marked_row(choices, oracles, first + i as u32, text)?;
     }
     Ok(())
 }

@@ -2,8 +2,9 @@
 
 ghost use Rattle.std.specs.Prelude.{◌≡◌, ◌≤◌, IfOk, length, map};
 ghost use Rattle.xm_model.specs.Component.{component_of};
-ghost use Rattle.xm_model.specs.Lists.{is_oracle};
-ghost use Rattle.xm_tape.specs.Drafted.{components_seen};
+ghost use Rattle.xm_model.specs.Views.{is_oracle};
+ghost use Rattle.xm_model.specs.Limits.{most_primitives};
+ghost use Rattle.xm_tape.specs.Inner.Views.{components_of};
 ghost use Rattle.xm_tape.specs.Marks as spec;
 
 use std::alloc::Global;
@@ -17,7 +18,7 @@ fn is_oracle(prim: &Prim) -> bool
 }
 
 fn oracles_among(alloc: Global, prims: &[Prim]) -> Result<Vec<&Prim>, OutOfMemory>
-    ensures oracles { IfOk result (λ found. components_seen found.items ≡ spec.oracles_of (map component_of prims.now)) }
+    ensures oracles { IfOk result (λ found. components_of found.items ≡ spec.oracles_of (map component_of prims.now)) }
     ensures few { IfOk result (λ found. length found.items ≤ length prims.now) }
 {
     let mut oracles = Vec::new(alloc);
@@ -31,8 +32,8 @@ fn oracles_among(alloc: Global, prims: &[Prim]) -> Result<Vec<&Prim>, OutOfMemor
 
 /// The sources and sinks of the design, in primitive order.
 pub fn oracles_of(alloc: Global, design: &Design) -> Result<Vec<&Prim>, OutOfMemory>
-    ensures oracles { IfOk result (λ found. components_seen found.items ≡ spec.oracles_of design.now.net.prims) }
-    ensures few { IfOk result (λ found. length found.items ≤ 4096) }
+    ensures oracles { IfOk result (λ found. components_of found.items ≡ spec.oracles_of design.now.net.prims) }
+    ensures few { IfOk result (λ found. length found.items ≤ most_primitives) }
 {
     oracles_among(alloc, design.net().prims().as_slice())
 }

@@ -1,10 +1,11 @@
 //! The choices of a run, cycle by cycle.
 
 ghost use Rattle.std.specs.Prelude.{◌≡◌, [], ◌*◌, ◌+◌, ◌<◌, ◌≤◌, ◌^◌, IfOk, length, slice_index_or};
-ghost use Rattle.xm_tape.specs.Drafted.{texts_seen};
+ghost use Rattle.xm_json.specs.Lent.{lent_texts};
 ghost use Rattle.xm_tape.specs.Draws.{seeded_rows};
-ghost use Rattle.xm_tape.specs.Fault.{Gives};
+ghost use Rattle.xm_tape.specs.Gives.{Gives};
 ghost use Rattle.xm_tape.specs.Reading.{repeating, taped_in};
+ghost use Rattle.xm_tape.specs.Sizes.{most_cycles, most_cycles_by_channels};
 
 use crate::fault::TapeFault;
 use crate::oracles::oracles_of;
@@ -30,7 +31,7 @@ impl Model for Tape {
 
     ghost Value = { Taped };
 
-    ghost use Rattle.xm_tape.specs.Flat.{IsKept, taped};
+    ghost use Rattle.xm_tape.specs.Inner.Flat.{IsKept, taped};
 
     ghost view = { λ t. taped t.choices.items t.width t.stem t.cycle t.times };
 
@@ -38,7 +39,7 @@ impl Model for Tape {
 }
 
 impl Tape {
-    ghost use Rattle.xm_tape.specs.Flat.{row_kept};
+    ghost use Rattle.xm_tape.specs.Inner.Flat.{row_kept};
     ghost use Rattle.xm_tape.specs.Taped.{Fits, cycles_of, rows_of};
 
     /// The tape that draws its choices from a seed. All its rows are kept.
@@ -48,14 +49,15 @@ impl Tape {
         cycles: u32,
         seed: u64,
     ) -> Result<Tape, OutOfMemory>
-        requires few { cycles ≤ 10000000 }
-        requires small { cycles * design.now.net.channels ≤ 64000000 }
-        ensures tape { IfOk result (λ tape. tape ≡ record { stem = seeded_rows design.now.net.prims cycles seed; cycle = []; times = 0 }) }
+        requires few { cycles ≤ most_cycles }
+        requires small { cycles * design.now.net.channels ≤ most_cycles_by_channels }
+        ensures tape { IfOk result
+            (λ tape. tape ≡ record { stem = seeded_rows design.now.net.prims cycles seed; cycle = []; times = 0 }) }
         ensures fits { IfOk result (Fits design.now.net) }
     {
         let oracles = oracles_of(alloc, design)?;
         let mut choices = List::new(alloc);
-        draws::push_rows(&mut choices, &oracles, cycles, seed)?;
+        draws::push_drawn_rows(&mut choices, &oracles, cycles, seed)?;
         Ok(Tape {
             choices,
             width: oracles.len() as u32,
@@ -74,14 +76,16 @@ impl Tape {
         cycle: &[&str],
         times: u32,
     ) -> Result<Tape, TapeFault>
-        requires few { length stem.now + times * length cycle.now ≤ 10000000 }
+        requires few { length stem.now + times * length cycle.now ≤ most_cycles }
         requires counted { length stem.now + length cycle.now < 2 ^ 32 }
-        ensures { Gives (λ tape. tape) result (taped_in design.now.net (repeating (texts_seen stem.now) (texts_seen cycle.now) times)) }
+        ensures exact { Gives (λ tape. tape) result
+            (taped_in design.now.net (repeating (lent_texts stem.now) (lent_texts cycle.now) times)) }
+        ensures fits { IfOk result (Fits design.now.net) }
     {
         let oracles = oracles_of(alloc, design)?;
         let mut choices = List::new(alloc);
-        marks::push_rows(&mut choices, &oracles, 0, stem)?;
-        marks::push_rows(&mut choices, &oracles, stem.len() as u32, cycle)?;
+        marks::push_marked_rows(&mut choices, &oracles, 0, stem)?;
+        marks::push_marked_rows(&mut choices, &oracles, stem.len() as u32, cycle)?;
         Ok(Tape {
             choices,
             width: oracles.len() as u32,

@@ -1,5 +1,5 @@
 pub mod Counting
 pub mod Labelling
 pub mod Lines
+pub mod RoundAdded
 pub mod Running
-pub mod Telling

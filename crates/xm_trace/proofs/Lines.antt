@@ -7,12 +7,12 @@ use Rattle.xm_model.specs.Next.{move}
 use Rattle.xm_model.specs.Run.{is_offer, moves}
 use Rattle.xm_model.specs.Signals.{Signals}
 use Rattle.xm_trace.proofs.Counting.{at_most_one}
-use Rattle.xm_trace.specs.Moves.{cycle_moves, moved_on, round_moves, run_moves}
-use Rattle.xm_model.specs.Lines.{line}
+use Rattle.xm_trace.specs.Moves.{cycle_moves, moved_on, round_moves}
+use Rattle.xm_model.specs.TextLines.{line}
 use Rattle.xm_model.specs.Naming.{Naming}
 use Rattle.xm_trace.specs.Rounds.{RoundsJoin}
 use Rattle.xm_trace.specs.Sums.{sum_at, sum_in}
-use Rattle.xm_trace.specs.Text.{channel_sums, cycle_line, cycle_lines, end_line, end_text, move_text, round_lines, run_text, sum_line, sum_lines}
+use Rattle.xm_trace.specs.Text.{channel_sums, cycle_line, end_line, move_text, round_lines, run_text, sum_line, sum_lines}
 use Rattle.xm_trace.specs.declared.trace.Move.{Move}
 
 abbrev is_of : ℕ → Move → Bool
@@ -194,16 +194,7 @@ moves_few φ c d (suc t) =
     let one = at_most_one (is_offer d (move (φ t) c)) in
     omega (arith, before, one)
 
--- one round may be the whole run
-pub whole_round : (φ : ℕ → Signals) (n k : ℕ) → run_moves φ n k ≡ round_moves φ n 0 k
-whole_round φ n zero = refl
-whole_round φ n (suc k) = ap₂ (λ (xs ys : List Move). xs ++ ys) (whole_round φ n k) (ap (λ (i : ℕ). cycle_moves (φ i) i n) (sym (zero-add k)))
-
 -- ---- lines
-
-pub all_lines : (names : Naming) (φ : ℕ → Signals) (n : ℕ) → round_lines names φ 0 n ≡ cycle_lines names φ n
-all_lines names φ zero = refl
-all_lines names φ (suc n) = ap₂ (λ (x y : List ℕ). x ++ y) (all_lines names φ n) (ap (cycle_line names φ) (zero-add n))
 
 joined_lines : (names : Naming) (φ : ℕ → Signals) (from n m : ℕ) → round_lines names φ from (n + m) ≡ round_lines names φ from n ++ round_lines names φ (from + n) m
 joined_lines names φ from n zero =
@@ -214,13 +205,8 @@ joined_lines names φ from n (suc m) =
     rw (add-suc n m) (ap₂ (λ (x y : List ℕ). x ++ y) (joined_lines names φ from n m) (ap (cycle_line names φ) later)
     ∙ append_assoc (round_lines names φ from n) (round_lines names φ (from + n) m) (cycle_line names φ (from + n + m)))
 
-ended_lines : (names : Naming) (φ : ℕ → Signals) (n : ℕ) → run_text names φ n ≡ round_lines names φ 0 n ++ end_text names φ n
-ended_lines names φ n =
-    append_assoc (cycle_lines names φ n) (sum_lines names (λ c d. moves φ c d n) (length names.channels)) (end_line n)
-    ∙ ap (λ (x : List ℕ). x ++ end_text names φ n) (sym (all_lines names φ n))
-
 pub rounds_join : RoundsJoin
-rounds_join = record { all = all_lines; joined = joined_lines; ended = ended_lines }
+rounds_join = record { joined = joined_lines }
 
 -- ---- the end of the text
 
@@ -235,15 +221,13 @@ sum_lines_same names f g (suc c) same =
     ap₂ (λ (x y : List ℕ). x ++ y) (sum_lines_same names f g c (λ b d h. same b d (omega arith))) (channel_sums_same names f g c (length names.colours) (λ d. same c d (omega arith)))
 
 -- the lines of all cycles, of these sums and of the end are the text of the run
-pub whole_text : (names : Naming) (φ : ℕ → Signals) (cycles : ℕ) (all : List Move) (sums : List ℕ) (begun lined ended : List ℕ) → all ≡ run_moves φ (length names.channels) cycles →
+pub whole_text : (names : Naming) (φ : ℕ → Signals) (cycles : ℕ) (all : List Move) (sums : List ℕ) (begun lined ended : List ℕ) → all ≡ round_moves φ (length names.channels) 0 cycles →
     ((c d : ℕ) → c < length names.channels → d < length names.colours → sum_at sums (length names.colours) c d ≡ sum_in all c d) → begun ≡ [] →
-    (all ≡ round_moves φ (length names.channels) 0 cycles → lined ≡ begun ++ round_lines names φ 0 cycles) →
+    lined ≡ begun ++ round_lines names φ 0 cycles →
     ended ≡ lined ++ (sum_lines names (sum_at sums (length names.colours)) (length names.channels) ++ end_line cycles) → ended ≡ run_text names φ cycles
 whole_text names φ cycles all sums begun lined ended is same empty lines rest =
     let n = length names.channels in
-    let round = is ∙ whole_round φ n cycles in
     let counted = sum_lines_same names (sum_at sums (length names.colours)) (λ c d. moves φ c d cycles) n
-    (λ c d h k. same c d h k ∙ ap (λ (ms : List Move). sum_in ms c d) round ∙ sum_all φ n cycles c d h) in
+    (λ c d h k. same c d h k ∙ ap (λ (ms : List Move). sum_in ms c d) is ∙ sum_all φ n cycles c d h) in
     rest
-    ∙ ap₂ (λ (x y : List ℕ). x ++ (y ++ end_line cycles)) (lines round ∙ ap (λ (x : List ℕ). x ++ round_lines names φ 0 cycles) empty) counted
-    ∙ sym (ended_lines names φ cycles)
+    ∙ ap₂ (λ (x y : List ℕ). x ++ (y ++ end_line cycles)) (lines ∙ ap (λ (x : List ℕ). x ++ round_lines names φ 0 cycles) empty) counted

@@ -4,20 +4,19 @@ use Rattle.std.proofs.lemmas.Option.{slice_get-get_or}
 use Rattle.std.specs.Prelude.{[], slice_index_or}
 use Rattle.xm_model.specs.Component.{Content}
 use Rattle.xm_model.specs.Frame.{Equation, IsFrame}
-use Rattle.xm_model.specs.Lists.{IsNextOf, choice_at, content_at, offer_or, ready_or, signals_of}
+use Rattle.xm_model.specs.Views.{IsNextOf, choice_at, content_at, offer_or, ready_or, signals_of}
 use Rattle.xm_model.specs.Net.{IsNet, Network}
 use Rattle.xm_model.specs.Next.{move}
 use Rattle.xm_model.specs.Signals.{Signals, only_if}
-use Rattle.xm_model.specs.declared.parts.Cell.{Cell}
-use Rattle.xm_model.specs.declared.parts.Choice.{Choice}
-use Rattle.xm_model.specs.declared.parts.Wire.{Wire}
+use Rattle.xm_model.specs.declared.state.Cell.{Cell}
+use Rattle.xm_model.specs.declared.state.Choice.{Choice}
+use Rattle.xm_model.specs.declared.state.Wire.{Wire}
 use Rattle.xm_order.specs.Dependence.{IsOrder}
 use Rattle.xm_order.specs.OneFrame.{SameFrame}
 use Rattle.xm_order.specs.OneRun.{OneRun}
-use Rattle.xm_order.specs.SameNext.{next_same}
+use Rattle.xm_order.specs.Lemmas.SameNext.{next_same}
 use Rattle.xm_order.specs.declared.signal.Signal.{Signal}
 use Rattle.xm_tape.specs.Taped.{Taped, chosen, cycles_of, rows_of}
-use Rattle.xm_trace.proofs.Lines.{whole_round}
 use Rattle.xm_trace.specs.Moves.{cycle_moves, moved_on, round_moves}
 use Rattle.xm_trace.specs.Rounds.{RoundsFollow}
 use Rattle.xm_trace.specs.Runs.{AreMovesFrom, AreMovesOfRun, IsRunOf}
@@ -83,18 +82,18 @@ whole_run one_run net signals is_net order tape moves n all every =
       states = found.0;
       frames = found.1.0;
       run = found.1.1;
-      same = every found.0 found.1.0 found.1.1 ∙ ap (round_moves found.1.0 net.channels 0) many ∙ sym (whole_round found.1.0 net.channels (cycles_of tape));
+      same = every found.0 found.1.0 found.1.1 ∙ ap (round_moves found.1.0 net.channels 0) many;
     }
 
 -- what holds of the moves of a round in every run of the tape makes them those of its run, which there is
 pub rounds_follow : OneRun → RoundsFollow
-rounds_follow one_run net signals tape told n part is_net order same had moved few =
+rounds_follow one_run net signals tape state n part is_net order same had moved few =
     let found = (one_run net signals (cycles_of tape) (chosen net.prims (rows_of tape)) is_net order).0 in
     record {
       frames = found.1.0;
       follows = record {
         had = had found.0 found.1.0 found.1.1;
-        moves = moved found.0 found.1.0 found.1.1 ∙ ap (λ (channels : ℕ). round_moves found.1.0 channels told.cycles n) (sym same);
+        moves = moved found.0 found.1.0 found.1.1 ∙ ap (λ (channels : ℕ). round_moves found.1.0 channels state.cycles n) (sym same);
       };
       few = few;
     }

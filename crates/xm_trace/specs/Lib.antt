@@ -1,9 +1,8 @@
-pub mod Joining
-pub mod Labels
+pub mod Inner
+pub mod Lemmas
 pub mod Moves
 pub mod Rounds
+pub mod RunTextState
 pub mod Runs
 pub mod Sums
-pub mod Table
 pub mod Text
-pub mod Told

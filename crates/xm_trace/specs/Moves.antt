@@ -18,8 +18,3 @@ cycle_moves φ t (suc c) = cycle_moves φ t c ++ moved_on t c (move φ c)
 abbrev pub round_moves : (ℕ → Signals) → ℕ → ℕ → ℕ → List Move
 round_moves φ channels from zero = []
 round_moves φ channels from (suc n) = round_moves φ channels from n ++ cycle_moves (φ (from + n)) (from + n) channels
-
--- the moves of the first cycles
-abbrev pub run_moves : (ℕ → Signals) → ℕ → ℕ → List Move
-run_moves φ channels zero = []
-run_moves φ channels (suc t) = run_moves φ channels t ++ cycle_moves (φ t) t channels

@@ -8,22 +8,22 @@ use Rattle.xm_order.specs.Dependence.{IsOrder}
 use Rattle.xm_order.specs.declared.signal.Signal.{Signal}
 use Rattle.xm_tape.specs.Taped.{Taped}
 use Rattle.xm_trace.specs.Runs.{AreMovesFrom, IsRunOf}
-use Rattle.xm_trace.specs.Text.{cycle_lines, end_text, round_lines, run_text}
-use Rattle.xm_trace.specs.Told.{FollowsSome, HasHad, Told}
+use Rattle.xm_trace.specs.Text.{round_lines}
+use Rattle.xm_trace.specs.RunTextState.{FollowsSome, HasHad, RunTextState}
 use Rattle.xm_trace.specs.declared.trace.Move.{Move}
 
--- one round may be all, two rounds join, and the lines of all cycles with what follows them are the text
+-- the lines of two rounds, one after the other, are those of both in one
 pub record RoundsJoin : Type 0 where
-  pub all : (names : Naming) (φ : ℕ → Signals) (n : ℕ) → round_lines names φ 0 n ≡ cycle_lines names φ n
-  pub joined : (names : Naming) (φ : ℕ → Signals) (from n m : ℕ) → round_lines names φ from (n + m) ≡ round_lines names φ from n ++ round_lines names φ (from + n) m
-  pub ended : (names : Naming) (φ : ℕ → Signals) (n : ℕ) → run_text names φ n ≡ round_lines names φ 0 n ++ end_text names φ n
+  pub joined : (names : Naming) (φ : ℕ → Signals) (from n m : ℕ) →
+      round_lines names φ from (n + m) ≡ round_lines names φ from n ++ round_lines names φ (from + n) m
 
 -- it has had the first cycles of the tape's run
-abbrev pub HasHadRun : Network → Taped → Told → Type 0
-HasHadRun net tape told = (s : ℕ → ℕ → Content) (φ : ℕ → Signals) → IsRunOf net tape s φ → HasHad told φ
+abbrev pub HasHadRun : Network → Taped → RunTextState → Type 0
+HasHadRun net tape state = (s : ℕ → ℕ → Content) (φ : ℕ → Signals) → IsRunOf net tape s φ → HasHad state φ
 
 -- the moves of the next cycles of the tape's run follow
 abbrev pub RoundsFollow : Type 0
 RoundsFollow =
-    (net : Network) (signals : List Signal) (tape : Taped) (told : Told) (n : ℕ) (part : List Move) → IsNet net → IsOrder net signals → told.channels ≡ net.channels →
-    HasHadRun net tape told → AreMovesFrom net tape told.cycles n part → told.cycles + n < 2 ^ 32 → FollowsSome told n part
+    (net : Network) (signals : List Signal) (tape : Taped) (state : RunTextState) (n : ℕ) (part : List Move) →
+    IsNet net → IsOrder net signals → state.channels ≡ net.channels → HasHadRun net tape state →
+    AreMovesFrom net tape state.cycles n part → state.cycles + n < 2 ^ 32 → FollowsSome state n part

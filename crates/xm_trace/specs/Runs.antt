@@ -1,13 +1,13 @@
 -- The run of a tape.
 use Rattle.std.specs.Prelude.{◌≡◌, ℕ, List}
 use Rattle.xm_model.specs.Component.{Content}
-use Rattle.xm_model.specs.Lists.{content_at}
+use Rattle.xm_model.specs.Views.{content_at}
 use Rattle.xm_model.specs.Net.{Network}
 use Rattle.xm_model.specs.Run.{IsRun}
 use Rattle.xm_model.specs.Signals.{Signals}
-use Rattle.xm_model.specs.declared.parts.Cell.{Cell}
+use Rattle.xm_model.specs.declared.state.Cell.{Cell}
 use Rattle.xm_tape.specs.Taped.{Taped, chosen, cycles_of, rows_of}
-use Rattle.xm_trace.specs.Moves.{round_moves, run_moves}
+use Rattle.xm_trace.specs.Moves.{round_moves}
 use Rattle.xm_trace.specs.declared.trace.Move.{Move}
 
 -- the states and frames of the tape's cycles
@@ -16,15 +16,17 @@ IsRunOf net tape s φ = IsRun net (cycles_of tape) (chosen net.prims (rows_of ta
 
 -- the cells are those of the tape's run after so many cycles
 abbrev pub AreCellsAt : Network → Taped → ℕ → List Cell → Type 0
-AreCellsAt net tape t cells = (s : ℕ → ℕ → Content) (φ : ℕ → Signals) → IsRunOf net tape s φ → (p : ℕ) → content_at cells p ≡ s t p
+AreCellsAt net tape t cells =
+    (s : ℕ → ℕ → Content) (φ : ℕ → Signals) → IsRunOf net tape s φ → (p : ℕ) → content_at cells p ≡ s t p
 
 -- the moves are those of so many cycles of the tape's run, from a cycle on
 abbrev pub AreMovesFrom : Network → Taped → ℕ → ℕ → List Move → Type 0
-AreMovesFrom net tape from n moves = (s : ℕ → ℕ → Content) (φ : ℕ → Signals) → IsRunOf net tape s φ → moves ≡ round_moves φ net.channels from n
+AreMovesFrom net tape from n moves =
+    (s : ℕ → ℕ → Content) (φ : ℕ → Signals) → IsRunOf net tape s φ → moves ≡ round_moves φ net.channels from n
 
 -- the moves are those of the tape's run
 pub record AreMovesOfRun (net : Network) (tape : Taped) (moves : List Move) : Type 0 where
   pub states : ℕ → ℕ → Content
   pub frames : ℕ → Signals
   pub run : IsRunOf net tape states frames
-  pub same : moves ≡ run_moves frames net.channels (cycles_of tape)
+  pub same : moves ≡ round_moves frames net.channels 0 (cycles_of tape)

@@ -2,7 +2,7 @@
 use Rattle.std.specs.Prelude.{◌≡◌, ℕ, zero, suc, ◌+◌, List, [], ◌++◌, length, codes, decimal}
 use Rattle.std.specs.List.{flat_map}
 use Rattle.xm_model.specs.Component.{Content}
-use Rattle.xm_model.specs.Lines.{line, name_at}
+use Rattle.xm_model.specs.TextLines.{line, name_at}
 use Rattle.xm_model.specs.Naming.{Naming}
 use Rattle.xm_model.specs.Net.{Network}
 use Rattle.xm_model.specs.Run.{moves}
@@ -24,10 +24,6 @@ move_text names m = move_label (name_at names.channels m.channel) ++ name_at nam
 abbrev pub cycle_line : Naming → (ℕ → Signals) → ℕ → List ℕ
 cycle_line names φ t = line (decimal t ++ flat_map (move_text names) (cycle_moves (φ t) t (length names.channels)))
 
-abbrev pub cycle_lines : Naming → (ℕ → Signals) → ℕ → List ℕ
-cycle_lines names φ zero = []
-cycle_lines names φ (suc t) = cycle_lines names φ t ++ cycle_line names φ t
-
 -- the lines of so many cycles from a cycle on
 abbrev pub round_lines : Naming → (ℕ → Signals) → ℕ → ℕ → List ℕ
 round_lines names φ from zero = []
@@ -36,7 +32,9 @@ round_lines names φ from (suc n) = round_lines names φ from n ++ cycle_line na
 -- how often the colour moved on the channel, where it did
 abbrev pub sum_line : Naming → ℕ → ℕ → ℕ → List ℕ
 sum_line names c d zero = []
-sum_line names c d (suc n) = line (codes "sum " ++ name_at names.channels c ++ codes "." ++ name_at names.colours d ++ codes " " ++ decimal (suc n))
+sum_line names c d (suc n) =
+    line (codes "sum " ++ name_at names.channels c ++ codes "." ++ name_at names.colours d
+    ++ codes " " ++ decimal (suc n))
 
 -- the sums of the first colours on channel c, where colour d moved (n c d) times on it
 abbrev pub channel_sums : Naming → (ℕ → ℕ → ℕ) → ℕ → ℕ → List ℕ
@@ -51,12 +49,12 @@ sum_lines names n (suc c) = sum_lines names n c ++ channel_sums names n c (lengt
 abbrev pub end_line : ℕ → List ℕ
 end_line cycles = line (codes "end " ++ decimal cycles)
 
-abbrev pub run_text : Naming → (ℕ → Signals) → ℕ → List ℕ
-run_text names φ cycles = cycle_lines names φ cycles ++ sum_lines names (λ c d. moves φ c d cycles) (length names.channels) ++ end_line cycles
-
 -- what follows the lines of all cycles
 abbrev pub end_text : Naming → (ℕ → Signals) → ℕ → List ℕ
 end_text names φ cycles = sum_lines names (λ c d. moves φ c d cycles) (length names.channels) ++ end_line cycles
+
+abbrev pub run_text : Naming → (ℕ → Signals) → ℕ → List ℕ
+run_text names φ cycles = round_lines names φ 0 cycles ++ end_text names φ cycles
 
 -- the text is that of the tape's run
 pub record IsTextOfRun (net : Network) (names : Naming) (tape : Taped) (text : List ℕ) : Type 0 where

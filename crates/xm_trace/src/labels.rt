@@ -1,9 +1,9 @@
 //! What stands before the colour of a move, made once for each channel.
 
 ghost use Rattle.std.specs.Prelude.{◌≡◌, IfOk};
-ghost use Rattle.xm_model.specs.Lines.{name_at};
+ghost use Rattle.xm_model.specs.TextLines.{name_at};
 ghost use Rattle.xm_model.specs.Naming.{texts_of};
-ghost use Rattle.xm_trace.specs.Labels.{AreLabels};
+ghost use Rattle.xm_trace.specs.Inner.Labels.{AreLabels};
 ghost use Rattle.xm_trace.specs.Text.{move_label};
 
 use std::alloc::Global;
@@ -30,11 +30,12 @@ pub fn labels_of(alloc: Global, channels: &[Text]) -> Result<List<Text>, OutOfMe
     Ok(labels)
 }
 
-/// The label of channel `c`.
-pub fn label_at(labels: &[Text], c: usize) -> &[u8]
-    ensures { (channels : _) → AreLabels channels labels.now → result.now ≡ move_label (name_at (texts_of channels) c) }
+/// The label of a channel.
+pub fn label_at(labels: &[Text], channel: usize) -> &[u8]
+    ensures { (channels : _) → AreLabels channels labels.now
+        → result.now ≡ move_label (name_at (texts_of channels) channel) }
 {
-    match labels.get(c) {
+    match labels.get(channel) {
         Some(label) => label.as_bytes(),
         None => b" :",
     }

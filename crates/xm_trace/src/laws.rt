@@ -2,7 +2,8 @@
 
 ghost use Rattle.xm_trace.specs.Rounds.{RoundsFollow, RoundsJoin};
 
-/// What `RunText::add` gave, round after round, and then what `RunText::end` gave is the text of the run.
+/// The lines of two rounds, one after the other, are those of both in one. So what `RunText::add` gave, round
+/// after round, and then what `RunText::end` gave is the text of the run.
 pub fn rounds_join()
     ensures { RoundsJoin }
 {}

@@ -13,6 +13,3 @@ pub use laws::{rounds_follow, rounds_join};
 pub use run_text::{RunText, Total};
 pub use text::trace_text;
 pub use trace::{Move, Trace, run_all, run_round};
-
-#[cfg(test)]
-mod tests;

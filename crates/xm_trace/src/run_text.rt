@@ -2,7 +2,7 @@
 
 ghost use Rattle.std.specs.Prelude.{◌≡◌, ℕ, ◌+◌, IfOk, OnOk, OnErr};
 
-use crate::sums::{count_moves, no_sums};
+use crate::sums::count_moves;
 use crate::text::{push_end, push_round};
 use crate::trace::Trace;
 use std::alloc::Global;
@@ -29,13 +29,18 @@ pub struct RunText {
 }
 
 impl Model for RunText {
-    ghost use Rattle.xm_trace.specs.Told.{Told};
+    ghost use Rattle.xm_trace.specs.RunTextState.{RunTextState};
 
-    ghost Value = { Told };
+    ghost Value = { RunTextState };
 
-    ghost use Rattle.xm_trace.specs.Table.{IsTable};
+    ghost use Rattle.xm_trace.specs.Inner.Table.{IsTable};
 
-    ghost view = { λ it. record { cycles = it.cycles; channels = it.channels; colours = it.colours; sums = it.sums.items } };
+    ghost view = { λ it. record {
+      cycles = it.cycles;
+      channels = it.channels;
+      colours = it.colours;
+      sums = it.sums.items;
+    } };
 
     ghost invariant = { λ it. IsTable it.channels it.colours it.sums.items };
 }
@@ -45,7 +50,7 @@ impl RunText {
     ghost use Rattle.xm_model.specs.Run.{moves};
     ghost use Rattle.xm_model.specs.Signals.{Signals};
     ghost use Rattle.xm_trace.specs.Text.{end_text, round_lines};
-    ghost use Rattle.xm_trace.specs.Told.{Follows, FollowsSome, HasHad, IsNamedBy, totals_of};
+    ghost use Rattle.xm_trace.specs.RunTextState.{Follows, FollowsSome, HasHad, IsNamedBy, totals_of};
 
     /// The text of a run of the design, before its first cycle. It takes 8 bytes for each colour on each
     /// channel.
@@ -58,7 +63,7 @@ impl RunText {
         let net = design.net();
         let channels = net.channels();
         let colours = net.colours();
-        let sums = no_sums(alloc, channels * colours)?;
+        let sums = List::filled(alloc, 0u64, channels * colours)?;
         Ok(RunText {
             cycles: 0,
             channels,
@@ -72,8 +77,10 @@ impl RunText {
     pub fn add(&mut self, alloc: Global, names: &Names, part: &Trace) -> Result<Text, OutOfMemory>
         requires named { IsNamedBy self.old (naming_of names.now) }
         requires follows { FollowsSome self.old part.now.cycles part.now.moves.items }
-        ensures text { (φ : ℕ → Signals) → Follows self.old φ part.now.cycles part.now.moves.items → IfOk result (λ text. text.items ≡ round_lines (naming_of names.now) φ self.old.cycles part.now.cycles) }
-        ensures had { (φ : ℕ → Signals) → Follows self.old φ part.now.cycles part.now.moves.items → OnOk result (HasHad self.new φ) }
+        ensures text { (φ : ℕ → Signals) → Follows self.old φ part.now.cycles part.now.moves.items
+            → IfOk result (λ text. text.items ≡ round_lines (naming_of names.now) φ self.old.cycles part.now.cycles) }
+        ensures had { (φ : ℕ → Signals) → Follows self.old φ part.now.cycles part.now.moves.items
+            → OnOk result (HasHad self.new φ) }
         ensures cycles { OnOk result (self.new.cycles ≡ self.old.cycles + part.now.cycles) }
         ensures channels { self.new.channels ≡ self.old.channels }
         ensures colours { self.new.colours ≡ self.old.colours }
@@ -94,7 +101,8 @@ impl RunText {
     /// The lines of the sums, and the last line.
     pub fn end(&self, alloc: Global, names: &Names) -> Result<Text, OutOfMemory>
         requires named { IsNamedBy self.now (naming_of names.now) }
-        ensures { (φ : ℕ → Signals) → HasHad self.now φ → IfOk result (λ text. text.items ≡ end_text (naming_of names.now) φ self.now.cycles) }
+        ensures { (φ : ℕ → Signals) → HasHad self.now φ
+            → IfOk result (λ text. text.items ≡ end_text (naming_of names.now) φ self.now.cycles) }
     {
         let mut text = Text::new(alloc);
         push_end(&mut text, names, self.sums.as_slice(), self.cycles)?;
@@ -103,7 +111,9 @@ impl RunText {
 
     /// The pairs with moves, in pair order, with their sums.
     pub fn totals(&self, alloc: Global) -> Result<List<Total>, OutOfMemory>
-        ensures { (φ : ℕ → Signals) → HasHad self.now φ → IfOk result (λ totals. totals.items ≡ totals_of (λ c d. moves φ c d self.now.cycles) self.now.colours self.now.channels) }
+        ensures { (φ : ℕ → Signals) → HasHad self.now φ
+            → IfOk result (λ totals. totals.items
+            ≡ totals_of (λ c d. moves φ c d self.now.cycles) self.now.colours self.now.channels) }
     {
         crate::totals::totals_of(alloc, self.channels, self.colours, self.sums.as_slice())
     }

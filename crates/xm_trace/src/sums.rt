@@ -1,8 +1,9 @@
 //! How often each colour moves on each channel.
 
-ghost use Rattle.std.specs.Prelude.{◌≡◌, ℕ, ◌+◌, ◌^◌, ◌<◌, ◌≤◌, ◌&&◌, cond, length, nat_eq, slice_index, IfOk};
+ghost use Rattle.std.specs.Prelude.{◌≡◌, ℕ, ◌+◌, ◌^◌, ◌<◌, ◌≤◌, ◌&&◌, cond, nat_eq, replicate, IfOk};
+ghost use Rattle.xm_model.specs.Limits.{most_channels, most_colours};
 ghost use Rattle.xm_trace.specs.Sums.{AreSums, sum_at, sum_in};
-ghost use Rattle.xm_trace.specs.Table.{IsTable};
+ghost use Rattle.xm_trace.specs.Inner.Table.{IsTable};
 
 use crate::trace::Move;
 use std::alloc::Global;
@@ -12,7 +13,9 @@ use xm_model::{List, OutOfMemory};
 fn count_move(sums: &mut [u64], channels: usize, colours: usize, it: Move)
     requires table { IsTable channels colours sums.old }
     requires room { (c d : ℕ) → c < channels → d < colours → sum_at sums.old colours c d + 1 < 2 ^ 64 }
-    ensures { (c d : ℕ) → c < channels → d < colours → sum_at sums.new colours c d ≡ cond (nat_eq it.channel c && nat_eq it.colour d) 1 0 + sum_at sums.old colours c d }
+    ensures { (c d : ℕ) → c < channels → d < colours
+        → sum_at sums.new colours c d
+        ≡ cond (nat_eq it.channel c && nat_eq it.colour d) 1 0 + sum_at sums.old colours c d }
 {
     let channel = it.channel as usize;
     let colour = usize::from(it.colour);
@@ -21,26 +24,15 @@ fn count_move(sums: &mut [u64], channels: usize, colours: usize, it: Move)
     }
 }
 
-/// So many sums, each 0.
-pub fn no_sums(alloc: Global, count: u32) -> Result<List<u64>, OutOfMemory>
-    ensures len { IfOk result (λ sums. length sums.items ≡ count) }
-    ensures zero { IfOk result (λ sums. (k : ℕ) → slice_index sums.items k ≡ 0) }
-{
-    let mut sums = List::new(alloc);
-    sums.reserve(count)?;
-    for k in 0..count {
-        let _count = k;
-        sums.push(0u64)?;
-    }
-    Ok(sums)
-}
-
-/// Adds the moves to the sums: that of colour `d` on channel `c` stands at `c * colours + d`.
+/// Adds the moves to the sums: that of colour `d` on channel `c` stands at `c * colours + d`. It is not
+/// inlined: within its one caller the compiler keeps the variables of this loop on the stack, which cost time
+/// for every move (measured with callgrind).
 #[inline(never)]
 pub fn count_moves(sums: &mut [u64], channels: usize, colours: usize, moves: &[Move])
     requires table { IsTable channels colours sums.old }
     requires room { (c d : ℕ) → c < channels → d < colours → sum_at sums.old colours c d < 2 ^ 32 }
-    ensures { (c d : ℕ) → c < channels → d < colours → sum_at sums.new colours c d ≡ sum_in moves.now c d + sum_at sums.old colours c d }
+    ensures { (c d : ℕ) → c < channels → d < colours
+        → sum_at sums.new colours c d ≡ sum_in moves.now c d + sum_at sums.old colours c d }
 {
     for it in moves {
         count_move(sums, channels, colours, *it);
@@ -54,11 +46,11 @@ pub fn sums_of(
     colours: usize,
     moves: &[Move],
 ) -> Result<List<u64>, OutOfMemory>
-    requires channels { channels ≤ 8192 }
-    requires colours { colours ≤ 64 }
+    requires channels { channels ≤ most_channels }
+    requires colours { colours ≤ most_colours }
     ensures { IfOk result (λ sums. AreSums channels colours moves.now sums.items) }
 {
-    let mut sums = no_sums(alloc, (channels * colours) as u32)?;
+    let mut sums = List::filled(alloc, 0u64, (channels * colours) as u32)?;
     count_moves(sums.as_mut_slice(), channels, colours, moves);
     Ok(sums)
 }

@@ -2,9 +2,9 @@
 
 ghost use Rattle.std.specs.Prelude.{◌≡◌, ◌<◌, ◌++◌, IfOk, OnOk};
 ghost use Rattle.xm_trace.specs.Sums.{sum_at};
-ghost use Rattle.xm_trace.specs.Table.{IsTable};
-ghost use Rattle.xm_trace.specs.Told.{channel_totals, total_if};
-ghost use Rattle.xm_trace.specs.Told as spec;
+ghost use Rattle.xm_trace.specs.Inner.Table.{IsTable};
+ghost use Rattle.xm_trace.specs.RunTextState.{channel_totals, total_if};
+ghost use Rattle.xm_trace.specs.RunTextState as spec;
 
 use crate::run_text::Total;
 use std::alloc::Global;
@@ -31,17 +31,19 @@ fn push_total(
 
 fn push_totals(
     totals: &mut List<Total>,
-    c: u32,
+    channel: u32,
     channels: u32,
     colours: u32,
     sums: &[u64],
 ) -> Result<(), OutOfMemory>
     requires table { IsTable channels colours sums.now }
-    requires channel { c < channels }
-    ensures { OnOk result (totals.new.items ≡ totals.old.items ++ channel_totals (sum_at sums.now colours) c colours) }
+    requires channel { channel < channels }
+    ensures { OnOk result (totals.new.items
+        ≡ totals.old.items ++ channel_totals (sum_at sums.now colours) channel colours) }
 {
     for d in 0..colours {
-        push_total(totals, c, d as u8, sums[(c * colours + d) as usize])?;
+        let place = channel * colours + d;
+        push_total(totals, channel, d as u8, sums[place as usize])?;
     }
     Ok(())
 }

@@ -1,9 +1,10 @@
 //! The moves of a run.
 
 ghost use Rattle.std.specs.Prelude.{◌≡◌, ◌+◌, ◌-◌, ◌*◌, ◌^◌, ◌<◌, ◌≤◌, ◌++◌, length, IfOk, OnOk, OnErr};
-ghost use Rattle.xm_model.specs.Lists.{signals_of};
+ghost use Rattle.xm_model.specs.Views.{signals_of};
 ghost use Rattle.xm_model.specs.Signals.{only_if};
-ghost use Rattle.xm_step.specs.Roomy.{IsRoomy};
+ghost use Rattle.xm_model.specs.Limits.{most_channels};
+ghost use Rattle.xm_step.specs.Roomy.{IsRoomy, SameRooms};
 ghost use Rattle.xm_tape.specs.Taped.{cycles_of};
 ghost use Rattle.xm_trace.specs.Moves.{cycle_moves, moved_on};
 ghost use Rattle.xm_trace.specs.Runs.{AreCellsAt, AreMovesFrom, AreMovesOfRun};
@@ -29,10 +30,10 @@ pub struct Trace {
     pub moves: List<Move>,
 }
 
-/// Notes the move on channel `c` in cycle `t`, if there is one. There is room for it.
-fn note_move(moves: &mut List<Move>, t: u32, c: u32, wire: Wire)
+/// Notes the move on the channel in the cycle, if there is one. There is room for it.
+fn note_move(moves: &mut List<Move>, cycle: u32, channel: u32, wire: Wire)
     requires { length moves.old.items < moves.old.room }
-    ensures items { moves.new.items ≡ moves.old.items ++ moved_on t c (only_if wire.ready wire.offer) }
+    ensures items { moves.new.items ≡ moves.old.items ++ moved_on cycle channel (only_if wire.ready wire.offer) }
     ensures few { length moves.new.items ≤ length moves.old.items + 1 }
     ensures room { moves.new.room ≡ moves.old.room }
 {
@@ -40,56 +41,60 @@ fn note_move(moves: &mut List<Move>, t: u32, c: u32, wire: Wire)
         && wire.ready
     {
         let _ = moves.push(Move {
-            cycle: t,
-            channel: c,
+            cycle,
+            channel,
             colour,
         });
     }
 }
 
-/// Notes the moves of cycle `t`, by channel. There is room for one on each.
+/// Notes the moves of the cycle, by channel. There is room for one on each. It is not inlined: within its one
+/// caller the compiler keeps the variables of this loop on the stack, which cost time in every cycle (measured
+/// with callgrind).
 #[inline(never)]
-fn note_moves(moves: &mut List<Move>, t: u32, wires: &[Wire])
-    requires channels { length wires.now ≤ 8192 }
+fn note_moves(moves: &mut List<Move>, cycle: u32, wires: &[Wire])
+    requires channels { length wires.now ≤ most_channels }
     requires room { length moves.old.items + length wires.now ≤ moves.old.room }
-    ensures items { moves.new.items ≡ moves.old.items ++ cycle_moves (signals_of wires.now) t (length wires.now) }
+    ensures items { moves.new.items ≡ moves.old.items ++ cycle_moves (signals_of wires.now) cycle (length wires.now) }
     ensures few { length moves.new.items ≤ length moves.old.items + length wires.now }
     ensures room { moves.new.room ≡ moves.old.room }
 {
     for c in 0..wires.len() {
-        note_move(moves, t, c as u32, wires[c]);
+        note_move(moves, cycle, c as u32, wires[c]);
     }
 }
 
 /// The moves of the cycles from `from` to before `to`, and the state past them. A cycle takes time that is
 /// linear in the primitives, the channels and the packets of queues, and no memory: room for one move on
 /// each channel in each cycle, 12 bytes for one, and for one frame is taken first, so a refusal leaves the
-/// state.
+/// state. No room of the state changes.
 pub fn run_round(
     alloc: Global,
     design: &Design,
     tape: &Tape,
-    s: &mut State,
+    state: &mut State,
     from: u32,
     to: u32,
 ) -> Result<Trace, OutOfMemory>
-    requires roomy { IsRoomy design.now.net.prims s.old.cells.items }
-    requires cells { AreCellsAt design.now.net tape.now from s.old.cells.items }
+    requires roomy { IsRoomy design.now.net.prims state.old.cells.items }
+    requires cells { AreCellsAt design.now.net tape.now from state.old.cells.items }
     requires order { from ≤ to }
     requires within { to ≤ cycles_of tape.now }
     requires room { (to - from) * design.now.net.channels < 2 ^ 32 }
     ensures cycles { IfOk result (λ trace. trace.cycles ≡ to - from) }
     ensures moves { IfOk result (λ trace. AreMovesFrom design.now.net tape.now from (to - from) trace.moves.items) }
-    ensures cells { OnOk result (AreCellsAt design.now.net tape.now to s.new.cells.items) }
-    ensures roomy { OnOk result (IsRoomy design.now.net.prims s.new.cells.items) }
-    ensures err { OnErr result (s.new ≡ s.old) }
+    ensures cells { OnOk result (AreCellsAt design.now.net tape.now to state.new.cells.items) }
+    ensures roomy { OnOk result (IsRoomy design.now.net.prims state.new.cells.items) }
+    ensures rooms { OnOk result (SameRooms design.now.net.prims state.old.cells.items state.new.cells.items) }
+    ensures room { state.new.cells.room ≡ state.old.cells.room }
+    ensures err { OnErr result (state.new ≡ state.old) }
 {
     let channels = design.net().channels();
     let mut moves = List::new(alloc);
     moves.reserve((to - from) * channels)?;
     let mut frame = blank(alloc, design)?;
     for t in from..to {
-        step(design, s, tape.at(t), &mut frame);
+        step(design, state, tape.at(t), &mut frame);
         note_moves(&mut moves, t, frame.wires.as_slice());
     }
     Ok(Trace {
@@ -105,7 +110,7 @@ pub fn run_all(alloc: Global, design: &Design, tape: &Tape) -> Result<Trace, Out
     ensures moves { IfOk result (λ trace. AreMovesOfRun design.now.net tape.now trace.moves.items) }
 {
     xm_order::one_run();
-    let _net = design.net();
-    let mut s = reset(alloc, design)?;
-    run_round(alloc, design, tape, &mut s, 0, tape.cycles())
+    design.is_designed();
+    let mut state = reset(alloc, design)?;
+    run_round(alloc, design, tape, &mut state, 0, tape.cycles())
 }

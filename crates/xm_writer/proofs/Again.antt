@@ -7,33 +7,36 @@ use Rattle.std.proofs.lemmas.List.Elements.{All-append, All-head, All-tail}
 use Rattle.serde_json.specs.Data.{Data, array, member, no_members, number, object, unsigned}
 use Rattle.serde_json.specs.Find.{get}
 use Rattle.serde_json.specs.View.{items_of}
+use Rattle.xm_model.specs.TextLines.{name_at}
 use Rattle.xm_model.specs.Component.{Component}
-use Rattle.xm_model.specs.Limits.{prim_fits}
+use Rattle.xm_model.specs.Lemmas.PrimitiveFits.{prim_fits}
 use Rattle.xm_model.specs.Naming.{Naming}
 use Rattle.xm_model.specs.Net.{inputs, outputs}
 use Rattle.xm_model.specs.Steps.{each, each_from}
-use Rattle.xm_shape.specs.Draft.{Allowing, Draft, Part, channel_names}
-use Rattle.xm_shape.specs.Fault.{member_of, place_of}
+use Rattle.xm_shape.specs.NamedNet.{AllowEntry, NamedNet, NamedPrimitive, channel_names}
+use Rattle.xm_json.specs.Path.{member_of, place_of}
 use Rattle.xm_shape.specs.Names.{Name, is_among}
-use Rattle.xm_shape.specs.Shape.{allow_in, are_channels, colours_in, draft_in, entries_in, net, only, part_at, parts_in, version_in, whole_member, whole_or_missing}
+use Rattle.xm_shape.specs.Shape.{allow_in, are_channels, colours_in, named_net_in, entries_in, rest_in, root_in, net, primitive_at, primitives_in, version_in, whole_member, whole_or_missing}
+use Rattle.xm_json.specs.Members.{only}
+use Rattle.xm_shape.specs.Versions.{fair_version, first_version, initial_version, newest_version}
 use Rattle.xm_netlist.specs.Doc.{Doc}
-use Rattle.xm_netlist.specs.FirstFault.{is_wired}
+use Rattle.xm_netlist.specs.Lemmas.FirstFault.{is_wired}
 use Rattle.xm_netlist.specs.Numbered.{allow_of, naming_in, net_of}
-use Rattle.xm_netlist.specs.Reading.{document_of, numbered}
+use Rattle.xm_netlist.specs.Reading.{document_of, number_net}
 use Rattle.xm_netlist.specs.Valid.{IsPart, IsValid}
-use Rattle.xm_writer.specs.Writing.{data_of, has_packets, is_fair, member_if, name_at, object_if, prims_data, version_of}
+use Rattle.xm_writer.specs.Writing.{data_of, has_packets, is_fair, member_if, object_if, prims_data, version_of}
 use Rattle.xm_writer.proofs.AgainAllow.{allowing_of, entries_again, entries_written, entry_table, entry_table-all, entry_within, texts_data}
 use Rattle.xm_writer.proofs.AgainLists.{any_at, by_places, every_at}
 use Rattle.xm_writer.proofs.AgainMaps.{members_from}
 use Rattle.xm_writer.proofs.AgainMarks.{rising_within}
 use Rattle.xm_writer.proofs.AgainNames.{is_known}
-use Rattle.xm_writer.proofs.AgainNumbers.{Fits, channels_again, components_again, parts_of, prims_again}
+use Rattle.xm_writer.proofs.AgainNumbers.{Fits, channels_again, components_again, primitives_read, prims_again}
 use Rattle.xm_writer.proofs.AgainParts.{Suits, list_of-items_of, part_again, texts_again}
 use Rattle.xm_writer.proofs.AgainTests.{AreKnown, coloured_again, known_names, limited_again, named_again}
 
 -- ---- the members of the root
 
-parts_read : (version : ℕ) (names : Naming) (i p : ℕ) (ms : List Component) → All (Suits version) ms → each_from (λ i x. part_at version (place_of net i) x) i (prims_data names p ms) ≡ Ok (parts_of names p ms)
+parts_read : (version : ℕ) (names : Naming) (i p : ℕ) (ms : List Component) → All (Suits version) ms → each_from (λ i x. primitive_at version (place_of net i) x) i (prims_data names p ms) ≡ Ok (primitives_read names p ms)
 parts_read version names i p [] all = refl
 parts_read version names i p (m ∷ ms) all =
     rw (part_again version (place_of net i) names (name_at names.prims p) m (All-head (Suits version) m ms all), parts_read version names (suc i) (suc p) ms (All-tail (Suits version) m ms all)) refl
@@ -68,27 +71,27 @@ get_proof (e ∷ t) colours version prims None (Some p) = refl
 get_proof (e ∷ t) colours version prims (Some d) None = refl
 get_proof (e ∷ t) colours version prims (Some d) (Some p) = refl
 
-draft_read : (t : List (Name × List Name)) (colours : List Name) (version : ℕ) (prims : List Data) (tape proof : Option Data) (parts : List Part) → 1 ≤ version → version ≤ 3 → each (λ i x. part_at version (place_of net i) x) prims ≡ Ok parts
-    → are_channels parts (map allowing_of t) ≡ true → whole_or_missing tape ≡ true → whole_or_missing proof ≡ true → draft_in (root t colours version prims tape proof) ≡ Ok (record { colours = colours; parts = parts; allow = map allowing_of t })
-unfolding draft_in version_in colours_in parts_in allow_in only whole_member
-draft_read [] colours version prims None None parts low high read channels whole_tape whole_proof = rw (le-leb 1 version low, le-leb version 3 high, texts_again (codes "colours") colours, list_of-items_of prims, read) refl
-draft_read [] colours version prims None (Some p) parts low high read channels whole_tape whole_proof = rw (le-leb 1 version low, le-leb version 3 high, texts_again (codes "colours") colours, list_of-items_of prims, read, whole_proof) refl
-draft_read [] colours version prims (Some d) None parts low high read channels whole_tape whole_proof = rw (le-leb 1 version low, le-leb version 3 high, texts_again (codes "colours") colours, list_of-items_of prims, read, whole_tape) refl
-draft_read [] colours version prims (Some d) (Some p) parts low high read channels whole_tape whole_proof = rw (le-leb 1 version low, le-leb version 3 high, texts_again (codes "colours") colours, list_of-items_of prims, read, whole_tape, whole_proof) refl
-draft_read (e ∷ t) colours version prims None None parts low high read channels whole_tape whole_proof = rw (le-leb 1 version low, le-leb version 3 high, texts_again (codes "colours") colours, list_of-items_of prims, texts_again (member_of (codes "allow") e.0) e.1, entries_read t, read, channels) refl
-draft_read (e ∷ t) colours version prims None (Some p) parts low high read channels whole_tape whole_proof = rw (le-leb 1 version low, le-leb version 3 high, texts_again (codes "colours") colours, list_of-items_of prims, texts_again (member_of (codes "allow") e.0) e.1, entries_read t, read, channels, whole_proof) refl
-draft_read (e ∷ t) colours version prims (Some d) None parts low high read channels whole_tape whole_proof = rw (le-leb 1 version low, le-leb version 3 high, texts_again (codes "colours") colours, list_of-items_of prims, texts_again (member_of (codes "allow") e.0) e.1, entries_read t, read, channels, whole_tape) refl
-draft_read (e ∷ t) colours version prims (Some d) (Some p) parts low high read channels whole_tape whole_proof = rw (le-leb 1 version low, le-leb version 3 high, texts_again (codes "colours") colours, list_of-items_of prims, texts_again (member_of (codes "allow") e.0) e.1, entries_read t, read, channels, whole_tape, whole_proof) refl
+draft_read : (t : List (Name × List Name)) (colours : List Name) (version : ℕ) (prims : List Data) (tape proof : Option Data) (primitives : List NamedPrimitive) → first_version ≤ version → version ≤ newest_version → each (λ i x. primitive_at version (place_of net i) x) prims ≡ Ok primitives
+    → are_channels primitives (map allowing_of t) ≡ true → whole_or_missing tape ≡ true → whole_or_missing proof ≡ true → named_net_in (root t colours version prims tape proof) ≡ Ok (record { colours = colours; primitives = primitives; allow = map allowing_of t })
+unfolding named_net_in root_in rest_in version_in colours_in primitives_in allow_in only whole_member
+draft_read [] colours version prims None None primitives low high read channels whole_tape whole_proof = rw (le-leb first_version version low, le-leb version newest_version high, texts_again (codes "colours") colours, list_of-items_of prims, read) refl
+draft_read [] colours version prims None (Some p) primitives low high read channels whole_tape whole_proof = rw (le-leb first_version version low, le-leb version newest_version high, texts_again (codes "colours") colours, list_of-items_of prims, read, whole_proof) refl
+draft_read [] colours version prims (Some d) None primitives low high read channels whole_tape whole_proof = rw (le-leb first_version version low, le-leb version newest_version high, texts_again (codes "colours") colours, list_of-items_of prims, read, whole_tape) refl
+draft_read [] colours version prims (Some d) (Some p) primitives low high read channels whole_tape whole_proof = rw (le-leb first_version version low, le-leb version newest_version high, texts_again (codes "colours") colours, list_of-items_of prims, read, whole_tape, whole_proof) refl
+draft_read (e ∷ t) colours version prims None None primitives low high read channels whole_tape whole_proof = rw (le-leb first_version version low, le-leb version newest_version high, texts_again (codes "colours") colours, list_of-items_of prims, texts_again (member_of (codes "allow") e.0) e.1, entries_read t, read, channels) refl
+draft_read (e ∷ t) colours version prims None (Some p) primitives low high read channels whole_tape whole_proof = rw (le-leb first_version version low, le-leb version newest_version high, texts_again (codes "colours") colours, list_of-items_of prims, texts_again (member_of (codes "allow") e.0) e.1, entries_read t, read, channels, whole_proof) refl
+draft_read (e ∷ t) colours version prims (Some d) None primitives low high read channels whole_tape whole_proof = rw (le-leb first_version version low, le-leb version newest_version high, texts_again (codes "colours") colours, list_of-items_of prims, texts_again (member_of (codes "allow") e.0) e.1, entries_read t, read, channels, whole_tape) refl
+draft_read (e ∷ t) colours version prims (Some d) (Some p) primitives low high read channels whole_tape whole_proof = rw (le-leb first_version version low, le-leb version newest_version high, texts_again (codes "colours") colours, list_of-items_of prims, texts_again (member_of (codes "allow") e.0) e.1, entries_read t, read, channels, whole_tape, whole_proof) refl
 
 -- ---- what the document has
 
-version_suits : (ms : List Component) → (1 ≤ version_of ms) × (version_of ms ≤ 3) × All (Suits (version_of ms)) ms
+version_suits : (ms : List Component) → (first_version ≤ version_of ms) × (version_of ms ≤ newest_version) × All (Suits (version_of ms)) ms
 version_suits ms =
     elim (cases_Bool (list_any is_fair ms)) [
-      | inl fair ↦ rw fair (omega arith, omega arith, by_places (Suits 3) ms (λ k m at. record { fair = λ _. refl; packets = λ _. omega arith }))
+      | inl fair ↦ rw fair (omega arith, omega arith, by_places (Suits fair_version) ms (λ k m at. record { fair = λ _. omega arith; packets = λ _. omega arith }))
       | inr none ↦ elim (cases_Bool (list_any has_packets ms)) [
-        | inl packets ↦ rw (none, packets) (omega arith, omega arith, by_places (Suits 2) ms (λ k m at. record { fair = λ is. absurd (true≢false (sym (any_at is_fair ms k m at is) ∙ none)); packets = λ _. omega arith }))
-        | inr no_packets ↦ rw (none, no_packets) (omega arith, omega arith, by_places (Suits 1) ms (λ k m at. record { fair = λ is. absurd (true≢false (sym (any_at is_fair ms k m at is) ∙ none)); packets = λ is. absurd (true≢false (sym (any_at has_packets ms k m at is) ∙ no_packets)) }))
+        | inl packets ↦ rw (none, packets) (omega arith, omega arith, by_places (Suits initial_version) ms (λ k m at. record { fair = λ is. absurd (true≢false (sym (any_at is_fair ms k m at is) ∙ none)); packets = λ _. omega arith }))
+        | inr no_packets ↦ rw (none, no_packets) (omega arith, omega arith, by_places (Suits first_version) ms (λ k m at. record { fair = λ is. absurd (true≢false (sym (any_at is_fair ms k m at is) ∙ none)); packets = λ is. absurd (true≢false (sym (any_at has_packets ms k m at is) ∙ no_packets)) }))
       ]
     ]
 
@@ -96,13 +99,13 @@ whole_part : (o : Option Data) → IfSome o IsPart → whole_or_missing o ≡ tr
 whole_part None h = refl
 whole_part (Some d) h = h.whole
 
-are_known : (channels : List Name) (t : List (Name × List Name)) → AllByRecursion (λ (e : Name × List Name). is_among channels e.0 ≡ true) t → list_all (λ (e : Allowing). is_among channels e.channel) (map allowing_of t) ≡ true
+are_known : (channels : List Name) (t : List (Name × List Name)) → AllByRecursion (λ (e : Name × List Name). is_among channels e.0 ≡ true) t → list_all (λ (e : AllowEntry). is_among channels e.channel) (map allowing_of t) ≡ true
 are_known channels [] all = refl
 are_known channels (e ∷ t) all = rw (all.0) (are_known channels t all.1)
 
 -- the draft that is written
-abbrev pub draft_of : Doc → Draft
-draft_of doc = record { colours = doc.names.colours; parts = parts_of doc.names 0 doc.net.prims; allow = map allowing_of (entry_table doc.names doc.allow []) }
+abbrev pub net_read : Doc → NamedNet
+net_read doc = record { colours = doc.names.colours; primitives = primitives_read doc.names 0 doc.net.prims; allow = map allowing_of (entry_table doc.names doc.allow []) }
 
 module _ (doc : Doc) (valid : IsValid doc) where
   all_fit : All (Fits doc.names) doc.net.prims
@@ -113,7 +116,7 @@ module _ (doc : Doc) (valid : IsValid doc) where
         differs = valid.sources p m at;
       })
 
-  channels_are : channel_names (parts_of doc.names 0 doc.net.prims) ≡ doc.names.channels
+  channels_are : channel_names (primitives_read doc.names 0 doc.net.prims) ≡ doc.names.channels
   channels_are = channels_again doc.names doc.net.prims valid.channels.distinct all_fit (rw (valid.named.channels) valid.numbered)
 
   colours_known : AllByRecursion (λ (e : Name × List Name). AreKnown doc.names.colours e.1) (entry_table doc.names doc.allow [])
@@ -126,15 +129,15 @@ module _ (doc : Doc) (valid : IsValid doc) where
       entry_table-all doc.names (λ (e : Name × List Name). is_among doc.names.channels e.0 ≡ true) doc.allow [] (λ k e at.
       let w = entry_within doc.net 0 doc.allow k e valid.allow at in is_known doc.names.channels e.channel (let n = valid.named.channels in let lt = w.1 in omega arith)) tt
 
-  same_net : net_of (draft_of doc) ≡ doc.net
+  same_net : net_of (net_read doc) ≡ doc.net
   unfolding net_of
   same_net = rw (channels_are, components_again doc.names valid.channels.distinct valid.colours.distinct 0 doc.net.prims all_fit, valid.named.channels, valid.named.colours) refl
 
-  same_names : naming_in (draft_of doc) ≡ doc.names
+  same_names : naming_in (net_read doc) ≡ doc.names
   unfolding naming_in
   same_names = rw (prims_again doc.names doc.net.prims valid.named.prims, channels_are) refl
 
-  same_allow : allow_of (draft_of doc) ≡ doc.allow
+  same_allow : allow_of (net_read doc) ≡ doc.allow
   unfolding allow_of
   same_allow = rw channels_are (entries_again doc.net doc.names doc.allow valid.channels.distinct valid.colours.distinct valid.named.channels valid.named.colours valid.allow)
 
@@ -145,16 +148,16 @@ module _ (doc : Doc) (valid : IsValid doc) where
   unfolding data_of
   data_is = rw (entries_written doc.names doc.allow) refl
 
-  draft_again : draft_in (data_of doc) ≡ Ok (draft_of doc)
+  draft_again : named_net_in (data_of doc) ≡ Ok (net_read doc)
   draft_again =
       let v = version_suits doc.net.prims in
-      let known : are_channels (parts_of doc.names 0 doc.net.prims) (map allowing_of table) ≡ true = rw channels_are (are_known doc.names.channels table channels_known) in
-      ap draft_in data_is
-      ∙ draft_read table doc.names.colours (version_of doc.net.prims) (prims_data doc.names 0 doc.net.prims) doc.tape doc.proof (parts_of doc.names 0 doc.net.prims) v.0 v.1 (parts_read (version_of doc.net.prims) doc.names 0 0 doc.net.prims v.2) known
+      let known : are_channels (primitives_read doc.names 0 doc.net.prims) (map allowing_of table) ≡ true = rw channels_are (are_known doc.names.channels table channels_known) in
+      ap named_net_in data_is
+      ∙ draft_read table doc.names.colours (version_of doc.net.prims) (prims_data doc.names 0 doc.net.prims) doc.tape doc.proof (primitives_read doc.names 0 doc.net.prims) v.0 v.1 (parts_read (version_of doc.net.prims) doc.names 0 0 doc.net.prims v.2) known
       (whole_part doc.tape valid.tape) (whole_part doc.proof valid.proof)
 
-  numbered_again : numbered (draft_of doc) doc.tape doc.proof ≡ Ok doc
-  unfolding numbered
+  numbered_again : number_net (net_read doc) doc.tape doc.proof ≡ Ok doc
+  unfolding number_net
   numbered_again =
       let limits = valid.net.limits in
       let channels : length doc.names.channels ≡ doc.net.channels = valid.named.channels in

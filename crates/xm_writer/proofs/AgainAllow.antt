@@ -8,14 +8,15 @@ use Rattle.std.proofs.lemmas.Option.{slice_get_within}
 use Rattle.std.proofs.lemmas.Simd.{map-map}
 use Rattle.serde_json.specs.Data.{Data, array, no_members, put, string}
 use Rattle.serde_json.specs.View.{items_of}
+use Rattle.xm_model.specs.TextLines.{name_at}
 use Rattle.xm_model.specs.Naming.{Allowed, Naming}
 use Rattle.xm_model.specs.Net.{Network}
-use Rattle.xm_shape.specs.Draft.{Allowing}
+use Rattle.xm_shape.specs.NamedNet.{AllowEntry}
 use Rattle.xm_shape.specs.Names.{Name, number_in}
-use Rattle.xm_netlist.specs.Lengths.{length-set_each}
+use Rattle.xm_netlist.specs.Lemmas.Lengths.{length-set_each}
 use Rattle.xm_netlist.specs.Numbered.{entries_from, listed_in, set_each, slots_of}
 use Rattle.xm_netlist.specs.Valid.{AllowsWithin, RisesWithin, are_distinct}
-use Rattle.xm_writer.specs.Writing.{entries_data, name_at, names_data}
+use Rattle.xm_writer.specs.Writing.{entries_data, names_data}
 use Rattle.xm_writer.proofs.AgainLists.{at_recursion, get-replicate, set_each_at}
 use Rattle.xm_writer.proofs.AgainMaps.{entered, entered-all, entered-has, entered-kept, members_from, put-entered}
 use Rattle.xm_writer.proofs.AgainMarks.{listed_again}
@@ -32,7 +33,7 @@ abbrev pub entry_table : Naming → List Allowed → List (Name × List Name) �
 entry_table names [] t = t
 entry_table names (e ∷ es) t = entry_table names es (entered t (name_at names.channels e.channel) (map (name_at names.colours) e.colours))
 
-abbrev pub allowing_of : Name × List Name → Allowing
+abbrev pub allowing_of : Name × List Name → AllowEntry
 allowing_of e = record { channel = e.0; colours = e.1 }
 
 -- the colours of the entry of a channel
@@ -143,13 +144,13 @@ module _ (net : Network) (names : Naming) (es : List Allowed) (channels : are_di
 
   slot_at : (i : ℕ) → i < net.channels → slice_get (slots_of names.channels names.colours (map allowing_of table)) i ≡ Some (allowed_at es i)
   slot_at i lt =
-      ap (λ l. slice_get l i) (set_each-map (λ (e : Allowing). number_in names.channels e.channel) (λ (e : Allowing). Some (listed_in names.colours e.colours)) allowing_of table (replicate (length names.channels) None))
+      ap (λ l. slice_get l i) (set_each-map (λ (e : AllowEntry). number_in names.channels e.channel) (λ (e : AllowEntry). Some (listed_in names.colours e.colours)) allowing_of table (replicate (length names.channels) None))
       ∙ set_each_at (λ (e : Name × List Name). number_in names.channels e.0) (λ (e : Name × List Name). Some (listed_in names.colours e.1)) table (replicate (length names.channels) None) i (allowed_at es i) (omega (arith, length-replicate {A = Option (List ℕ)} (length names.channels) None))
       (λ k e at here. at_recursion (IsEntry i) table k e at (all_entries i) here)
       (λ none. get-replicate (length names.channels) None i (omega arith) ∙ ap (λ (o : Option (List ℕ)). Some o) (sym (allowed_none es i (false_from_ne_true _ (λ some. true≢false (sym (entry_table-has names (λ n. nat_eq (number_in names.channels n) i) es [] (sym (any_entry i es 0 within) ∙ some)) ∙ none))))))
 
   length-slots : length (slots_of names.channels names.colours (map allowing_of table)) ≡ net.channels
-  length-slots = length-set_each (λ (e : Allowing). number_in names.channels e.channel) (λ (e : Allowing). Some (listed_in names.colours e.colours)) (map allowing_of table) (replicate (length names.channels) None) ∙ length-replicate (length names.channels) None ∙ as_many
+  length-slots = length-set_each (λ (e : AllowEntry). number_in names.channels e.channel) (λ (e : AllowEntry). Some (listed_in names.colours e.colours)) (map allowing_of table) (replicate (length names.channels) None) ∙ length-replicate (length names.channels) None ∙ as_many
 
   pub entries_again : entries_from 0 (slots_of names.channels names.colours (map allowing_of table)) ≡ es
   entries_again =

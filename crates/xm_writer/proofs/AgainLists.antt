@@ -9,8 +9,8 @@ use Rattle.std.proofs.lemmas.List.Elements.{All-cons, All-nil}
 use Rattle.std.proofs.lemmas.Option.{get_or_from_slice_get, slice_get-get_or, slice_get_within}
 use Rattle.xm_model.specs.Steps.{each_from}
 use Rattle.xm_shape.specs.Fault.{Fault}
-use Rattle.xm_shape.specs.Holding.{each_holds_from}
-use Rattle.xm_netlist.specs.Lengths.{length-numbers_below}
+use Rattle.xm_json.specs.Holding.{each_holds_from}
+use Rattle.xm_netlist.specs.Lemmas.Lengths.{length-numbers_below}
 use Rattle.xm_netlist.specs.Numbered.{numbers_below, set_each}
 
 -- each item passes its test
@@ -19,7 +19,7 @@ holds f i [] h = refl
 holds f i (x ∷ xs) h = rw (h i 0 x (omega arith) refl) (holds f (suc i) xs (λ j k y e g. h j (suc k) y (omega arith) g))
 
 -- each item is read as another
-pub reads : {A B C : Type 0} (f : ℕ → A → Result B Fault) (g : C → A) (h : C → B) (i : ℕ) (cs : List C) → ((j k : ℕ) (c : C) → j ≡ i + k → slice_get cs k ≡ Some c → f j (g c) ≡ Ok (h c)) → each_from f i (map g cs) ≡ Ok (map h cs)
+pub reads : {A B C E : Type 0} (f : ℕ → A → Result B E) (g : C → A) (h : C → B) (i : ℕ) (cs : List C) → ((j k : ℕ) (c : C) → j ≡ i + k → slice_get cs k ≡ Some c → f j (g c) ≡ Ok (h c)) → each_from f i (map g cs) ≡ Ok (map h cs)
 reads f g h i [] e = refl
 reads f g h i (c ∷ cs) e = rw (e i 0 c (omega arith) refl, reads f g h (suc i) cs (λ j k y s t. e j (suc k) y (omega arith) t)) refl
 

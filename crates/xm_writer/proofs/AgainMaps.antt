@@ -10,13 +10,14 @@ use Rattle.std.proofs.lemmas.Bool.{cases_eq, eq-eqb, ne_eqb, or_cases}
 use Rattle.std.proofs.lemmas.Map.Text.{is_eq-slice_cmp}
 use Rattle.std.proofs.lemmas.Option.{slice_get_within}
 use Rattle.serde_json.specs.Data.{Data, Members, member, no_members, put, string}
-use Rattle.xm_shape.specs.Draft.{Table}
-use Rattle.xm_shape.specs.Equal.{same_names}
+use Rattle.xm_model.specs.TextLines.{name_at}
+use Rattle.xm_shape.specs.NamedNet.{Table}
+use Rattle.xm_shape.specs.Lemmas.Equal.{same_names}
 use Rattle.xm_shape.specs.Names.{Name, is_among, number_in}
-use Rattle.xm_netlist.specs.Lengths.{length-numbers_below, length-set_each}
+use Rattle.xm_netlist.specs.Lemmas.Lengths.{length-numbers_below, length-set_each}
 use Rattle.xm_netlist.specs.Numbered.{images_of, numbers_below}
 use Rattle.xm_netlist.specs.Valid.{are_distinct}
-use Rattle.xm_writer.specs.Writing.{changes, name_at, name_data}
+use Rattle.xm_writer.specs.Writing.{changes, name_data}
 use Rattle.xm_writer.proofs.AgainLists.{at_recursion, every_at, number_below, same_by_items, set_each_at}
 use Rattle.xm_writer.proofs.AgainNames.{is_known, number_again}
 

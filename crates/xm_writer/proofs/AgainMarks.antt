@@ -6,11 +6,11 @@ use Rattle.std.proofs.lemmas.Bool.{cases_eq, eq-eqb, ne_eqb, or_from}
 use Rattle.std.proofs.lemmas.List.{length-replicate}
 use Rattle.std.proofs.lemmas.List.Elements.{All-cons, All-head, All-nil, All-tail}
 use Rattle.std.proofs.lemmas.Option.{slice_get_within}
+use Rattle.xm_model.specs.TextLines.{name_at}
 use Rattle.xm_shape.specs.Names.{Name, number_in}
-use Rattle.xm_netlist.specs.Lengths.{length-marks_of}
+use Rattle.xm_netlist.specs.Lemmas.Lengths.{length-marks_of}
 use Rattle.xm_netlist.specs.Numbered.{listed_in, marked_from, marks_of}
 use Rattle.xm_netlist.specs.Valid.{RisesWithin, are_distinct}
-use Rattle.xm_writer.specs.Writing.{name_at}
 use Rattle.xm_writer.proofs.AgainLists.{any_at, get-replicate, same_by_items, set_each_at}
 use Rattle.xm_writer.proofs.AgainNames.{number_again}
 

@@ -8,11 +8,11 @@ use Rattle.std.proofs.lemmas.Bool.{and_parts, cases_eq, eq-eqb, false_from_ne_tr
 use Rattle.std.proofs.lemmas.List.{map_push, take_all}
 use Rattle.std.proofs.lemmas.List.Elements.{All-head, All-push, All-tail}
 use Rattle.std.proofs.lemmas.Option.{slice_get-get_or}
-use Rattle.xm_shape.specs.Equal.{same_bytes, same_names, swapped}
+use Rattle.xm_model.specs.TextLines.{name_at}
+use Rattle.xm_shape.specs.Lemmas.Equal.{same_bytes, same_names, swapped}
 use Rattle.xm_shape.specs.Names.{Name, first_uses, is_among, number_in}
 use Rattle.xm_netlist.specs.Numbered.{numbers_below}
 use Rattle.xm_netlist.specs.Valid.{are_distinct, differ, first_numbers}
-use Rattle.xm_writer.specs.Writing.{name_at}
 use Rattle.xm_writer.proofs.AgainLists.{any_at, none_at}
 
 -- a name that stands at a later place is another

@@ -13,24 +13,25 @@ use Rattle.serde_json.specs.Data.{Data, Items, Members, array, boolean, depth, f
 use Rattle.serde_json.specs.Read.{read}
 use Rattle.serde_json.specs.View.{items_of}
 use Rattle.serde_json.specs.Written.{has_float, items_have_float, members_have_float}
+use Rattle.xm_model.specs.TextLines.{name_at}
 use Rattle.xm_model.specs.Component.{Component, Fork, Function, Join, Merge, Queue, Sink, Source, Switch}
 use Rattle.xm_model.specs.Naming.{Naming}
-use Rattle.xm_model.specs.declared.parts.Side.{Side}
-use Rattle.xm_model.specs.declared.parts.Side.TheVariants.{A, B}
-use Rattle.xm_model.specs.declared.parts.SinkMode.{SinkMode}
-use Rattle.xm_model.specs.declared.parts.SinkMode.TheVariants as sink_mode
-use Rattle.xm_model.specs.declared.parts.SourceMode.{SourceMode}
-use Rattle.xm_model.specs.declared.parts.SourceMode.TheVariants as source_mode
-use Rattle.xm_shape.specs.Draft.{Table}
+use Rattle.xm_model.specs.declared.primitive.Side.{Side}
+use Rattle.xm_model.specs.declared.primitive.Side.TheVariants.{A, B}
+use Rattle.xm_model.specs.declared.primitive.SinkMode.{SinkMode}
+use Rattle.xm_model.specs.declared.primitive.SinkMode.TheVariants as sink_mode
+use Rattle.xm_model.specs.declared.primitive.SourceMode.{SourceMode}
+use Rattle.xm_model.specs.declared.primitive.SourceMode.TheVariants as source_mode
+use Rattle.xm_shape.specs.NamedNet.{Table}
 use Rattle.xm_shape.specs.Names.{Name, is_colour_name, is_name, is_name_byte, is_word_byte}
-use Rattle.xm_shape.specs.Shape.{has_whole, items_have_whole, members_have_whole}
+use Rattle.xm_json.specs.WholeNumbers.{has_whole, items_have_whole, members_have_whole}
 use Rattle.xm_netlist.specs.Doc.{Doc}
-use Rattle.xm_netlist.specs.Json.{json_known}
+use Rattle.xm_netlist.specs.Lemmas.Json.{json_known}
 use Rattle.xm_netlist.specs.Numbered.{marked_from}
 use Rattle.xm_netlist.specs.Reading.{document_in, document_of}
 use Rattle.xm_netlist.specs.Valid.{AreNames, IsPart, IsValid}
-use Rattle.xm_writer.specs.Spelling.{HasTexts}
-use Rattle.xm_writer.specs.Writing.{component_data, data_of, initial_data, member_if, name_at, names_data, object_if, prims_data, side_data, sink_mode_data, source_mode_data, table_data, version_of}
+use Rattle.xm_writer.specs.Inner.MemberSteps.{HasTexts}
+use Rattle.xm_writer.specs.Writing.{component_data, data_of, initial_data, member_if, names_data, object_if, prims_data, side_data, sink_mode_data, source_mode_data, table_data, version_of}
 use Rattle.xm_writer.proofs.Again.{data_is}
 use Rattle.xm_writer.proofs.AgainAllow.{entry_table, names_data-texts, texts_data}
 use Rattle.xm_writer.proofs.AgainMaps.{changes-table, members_from, table_of}

@@ -4,11 +4,11 @@ use Rattle.serde_json.specs.Data.{Data, Members, array, member, no_members, numb
 use Rattle.serde_json.specs.View.{items_of}
 use Rattle.xm_model.specs.Component.{Component, Fork, Function, Join, Merge, Queue, Sink, Source, Switch}
 use Rattle.xm_model.specs.Naming.{Naming}
-use Rattle.xm_model.specs.declared.parts.SinkMode.TheVariants as sink_mode
-use Rattle.xm_model.specs.declared.parts.SourceMode.TheVariants as source_mode
+use Rattle.xm_model.specs.declared.primitive.SinkMode.TheVariants as sink_mode
+use Rattle.xm_model.specs.declared.primitive.SourceMode.TheVariants as source_mode
 use Rattle.xm_shape.specs.Names.{Name}
 use Rattle.xm_netlist.specs.Doc.{Doc}
-use Rattle.xm_writer.specs.Spelling.{kind_name, ports_put, put_if, rest_put}
+use Rattle.xm_writer.specs.Inner.MemberSteps.{kind_name, ports_put, put_if, rest_put}
 use Rattle.xm_writer.specs.Writing.{allow_data, component_data, data_of, member_if, name_data, prims_data, table_data, version_of}
 
 function_in_order : (input out name : Data) (table : Option Data)

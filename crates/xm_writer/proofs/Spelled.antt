@@ -9,15 +9,16 @@ use Rattle.serde_json.specs.Data.{Data, Members, object, put, string}
 use Rattle.serde_json.specs.View.{members_view, view}
 use Rattle.serde_json.specs.declared.value.Value.{Value, the_lemmas}
 use Rattle.serde_json.specs.declared.value.Value.{String as text_value}
+use Rattle.xm_model.specs.TextLines.{name_at}
 use Rattle.xm_model.specs.Component.{component_of}
 use Rattle.xm_model.specs.Naming.{Naming, allowed_of}
-use Rattle.xm_model.specs.declared.parts.Allow.{Allow}
-use Rattle.xm_model.specs.declared.parts.Primitive.{Primitive}
+use Rattle.xm_model.specs.declared.naming.Allow.{Allow}
+use Rattle.xm_model.specs.declared.primitive.Primitive.{Primitive}
 use Rattle.xm_shape.specs.Names.{Name}
-use Rattle.xm_shape.specs.Uses.{cut_at}
+use Rattle.xm_json.specs.Lemmas.Lists.{cut_at}
 use Rattle.xm_netlist.specs.Numbered.{marked_from}
-use Rattle.xm_writer.specs.Spelling.{AreTexts}
-use Rattle.xm_writer.specs.Writing.{changes, component_data, entries_data, name_at, name_data, names_data, object_if, prims_data}
+use Rattle.xm_writer.specs.Inner.MemberSteps.{AreTexts}
+use Rattle.xm_writer.specs.Writing.{changes, component_data, entries_data, name_data, names_data, object_if, prims_data}
 
 pub name_is_text : (names : List Name) → AreTexts names → (i : ℕ) → IsUtf8 (name_at names i)
 name_is_text [] all i = IsUtf8-nil

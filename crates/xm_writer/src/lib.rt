@@ -1,11 +1,8 @@
 //! Documents as canonical texts, which are read as the same documents again.
 #![tactic(auto)]
 
-mod parts;
-mod spelling;
+mod members;
+mod primitives;
 mod writing;
 
 pub use writing::write_document;
-
-#[cfg(test)]
-mod tests_writing;

@@ -5,19 +5,21 @@ ghost use Rattle.std.specs.List.{list_any};
 ghost use Rattle.serde_json.specs.Data.{array, no_members, put as put_member, string};
 ghost use Rattle.serde_json.specs.View.{items_of, members_view, view};
 ghost use Rattle.xm_model.specs.Component.{component_of};
+ghost use Rattle.xm_model.specs.TextLines.{name_at};
 ghost use Rattle.xm_model.specs.Naming.{allowed_of, naming_of, texts_of};
 ghost use Rattle.xm_netlist.specs.Documented.{doc_of};
 ghost use Rattle.xm_netlist.specs.Reading.{document_in};
 ghost use Rattle.xm_netlist.specs.Valid.{IsValid};
-ghost use Rattle.xm_writer.specs.Spelling.{AreTexts, HasTexts};
+ghost use Rattle.xm_writer.specs.Inner.MemberSteps.{AreTexts, HasTexts};
 ghost use Rattle.xm_writer.specs.Writing as spec;
 
-use crate::parts::part_value;
-use crate::spelling::{name_text, names_value, object_if, put, put_at_name, put_some};
+use crate::members::{name_text, names_value, object_if, put, put_at_name, put_some};
+use crate::primitives::primitive_value;
 use serde_json::{Map, Value};
 use std::alloc::Global;
 use xm_model::{Allow, Names, OutOfMemory, Prim, SourceMode, Text};
 use xm_netlist::Document;
+use xm_shape::{FAIR_VERSION, FIRST_VERSION, INITIAL_VERSION};
 
 /// All names.
 fn all_names_value(alloc: Global, names: &[Text]) -> Result<Value, OutOfMemory>
@@ -34,12 +36,13 @@ fn all_names_value(alloc: Global, names: &[Text]) -> Result<Value, OutOfMemory>
 
 fn net_value(alloc: Global, names: &Names, prims: &[Prim]) -> Result<Value, OutOfMemory>
     requires { HasTexts (naming_of names.now) }
-    ensures { IfOk result (λ v. view v ≡ array (items_of (spec.prims_data (naming_of names.now) 0 (map component_of prims.now)))) }
+    ensures { IfOk result (λ v. view v ≡ array
+        (items_of (spec.prims_data (naming_of names.now) 0 (map component_of prims.now)))) }
 {
     let mut values = Vec::new(alloc);
     for (p, prim) in prims.iter().enumerate() {
-        let part = part_value(alloc, names, p, prim)?;
-        values.push(part)?;
+        let primitive = primitive_value(alloc, names, p, prim)?;
+        values.push(primitive)?;
     }
     Ok(Value::Array(values))
 }
@@ -51,7 +54,9 @@ fn put_entry(
     entry: &Allow,
 ) -> Result<(), OutOfMemory>
     requires { HasTexts (naming_of names.now) }
-    ensures { OnOk result (members_view members.new.entries ≡ put_member (spec.name_at (naming_of names.now).channels entry.now.channel) (spec.names_data (naming_of names.now).colours entry.now.colours.items) (members_view members.old.entries)) }
+    ensures { OnOk result (members_view members.new.entries
+        ≡ put_member (name_at (naming_of names.now).channels entry.now.channel)
+        (spec.names_data (naming_of names.now).colours entry.now.colours.items) (members_view members.old.entries)) }
 {
     let colours = names_value(alloc, names.colours.as_slice(), entry.colours.as_slice())?;
     put_at_name(
@@ -69,7 +74,8 @@ fn entries_value(
     entries: &[Allow],
 ) -> Result<Map<String, Value>, OutOfMemory>
     requires { HasTexts (naming_of names.now) }
-    ensures { IfOk result (λ m. members_view m.entries ≡ spec.entries_data (naming_of names.now) (map allowed_of entries.now) no_members) }
+    ensures { IfOk result (λ m. members_view m.entries
+        ≡ spec.entries_data (naming_of names.now) (map allowed_of entries.now) no_members) }
 {
     let mut members = Map::new(alloc);
     for entry in entries {
@@ -85,7 +91,8 @@ fn allow_value(
     entries: &[Allow],
 ) -> Result<Option<Value>, OutOfMemory>
     requires { HasTexts (naming_of names.now) }
-    ensures { IfOk result (λ v. option_map view v ≡ spec.allow_data (naming_of names.now) (map allowed_of entries.now)) }
+    ensures { IfOk result (λ v. option_map view v
+        ≡ spec.allow_data (naming_of names.now) (map allowed_of entries.now)) }
 {
     Ok(object_if(entries_value(alloc, names, entries)?))
 }
@@ -128,11 +135,11 @@ fn version(prims: &[Prim]) -> u64
     ensures { result ≡ spec.version_of (map component_of prims.now) }
 {
     if any_fair(prims) {
-        3
+        FAIR_VERSION
     } else if any_packets(prims) {
-        2
+        INITIAL_VERSION
     } else {
-        1
+        FIRST_VERSION
     }
 }
 

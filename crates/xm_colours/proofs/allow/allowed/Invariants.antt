@@ -1,6 +1,6 @@
 use Rattle.std.proofs.Common.{map, take}
 use Rattle.xm_colours.specs.Family.{colours_at}
-use Rattle.xm_colours.specs.Refusing.{FoundFirst}
+use Rattle.xm_colours.specs.Inner.Refusing.{FoundFirst}
 use Rattle.xm_model.specs.Naming.{allowed_of}
 use Rattle.xm_colours.proofs.allow.allowed.Given as goal
 

@@ -1,5 +1,5 @@
 use Rattle.std.proofs.Common.{◌≡◌, false}
-use Rattle.xm_commands.specs.Prepared.{is_want_of_tape}
+use Rattle.xm_commands.specs.Inner.Prepared.{is_want_of_tape}
 use Rattle.xm_commands.proofs.Refusing.{tape_refused}
 use Rattle.xm_commands.proofs.answer.tape_refusal.Goals as goal
 

@@ -1,5 +1,5 @@
 use Rattle.std.proofs.Common.{◌≡◌, true, false}
-use Rattle.xm_commands.specs.Prepared.{is_of_wiring, is_want}
+use Rattle.xm_commands.specs.Inner.Prepared.{is_of_wiring, is_want}
 use Rattle.xm_commands.proofs.Refusing.{document_refused, wiring_refused}
 use Rattle.xm_commands.proofs.prepared.document_refusal.Goals as goal
 

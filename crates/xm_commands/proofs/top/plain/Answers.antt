@@ -2,7 +2,7 @@ use Rattle.std.proofs.Common.{◌≡◌, ◌∙◌, ◌⊎◌, ℕ, ap, inr, sym
 use Rattle.xm_commands.proofs.Whys.{called_is, some_called, why_called, why_complete, why_front, why_known, why_memory, why_quiet, why_read, why_read_unharmed, why_read_within, why_refused, why_told, why_too_long}
 use Rattle.xm_commands.proofs.Whys.{why_unknown, why_unread, why_unwritten, why_words, why_write, why_write_unharmed}
 use Rattle.xm_commands.specs.Status.{IsRefused, Tells, is_of_input, is_status}
-use Rattle.xm_commands.specs.WhyEnded.{change}
+use Rattle.xm_commands.specs.Inner.WhyEnded.{change}
 use Rattle.xm_commands.specs.Words.{command_of}
 use Rattle.xm_commands.proofs.top.plain.Goals as goal
 

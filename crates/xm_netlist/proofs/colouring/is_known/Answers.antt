@@ -1,6 +1,6 @@
 use Rattle.std.proofs.Common.{◌∙◌, string_bytes, sym}
 use Rattle.std.specs.Str.{bytes_eq}
-use Rattle.xm_shape.specs.Uses.{list_any-map}
+use Rattle.xm_json.specs.Lemmas.Lists.{list_any-map}
 use Rattle.xm_netlist.proofs.colouring.is_known.Goals as goal
 
 pub returns : goal.returns

@@ -1,4 +1,4 @@
-use Rattle.xm_shape.specs.Uses.{is_kept, is_told}
+use Rattle.xm_shape.specs.Lemmas.Uses.{is_kept, is_told}
 use Rattle.xm_netlist.proofs.naming.is_new.Goals as goal
 
 pub returns-clause-told : goal.returns-clause-told

@@ -1,5 +1,5 @@
 use Rattle.std.proofs.Common.{◌∙◌, sym, true≢false}
-use Rattle.xm_netlist.specs.Json.{json_known, json_refused}
+use Rattle.xm_netlist.specs.Lemmas.Json.{json_known, json_refused}
 use Rattle.xm_netlist.proofs.reading.json.Goals as goal
 
 pub returns-in-Ok-clause-read : goal.returns-in-Ok-clause-read

@@ -1,6 +1,6 @@
 use Rattle.std.proofs.Common.{◌≡◌, take}
 use Rattle.clap.specs.Simple.{app_of}
-use Rattle.xm_options.specs.Command.{command_with}
+use Rattle.xm_options.specs.Inner.Command.{command_with}
 use Rattle.xm_options.proofs.command.command_of.Given as goal
 
 abbrev pub invariant-loop-option : goal.invariant-loop-option

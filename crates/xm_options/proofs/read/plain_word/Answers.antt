@@ -1,6 +1,6 @@
 use Rattle.std.proofs.Common.{◌≡◌, ◌∙◌, ap, sym, subst, rules, false}
 use Rattle.std.specs.Str.{IsUtf8}
-use Rattle.xm_options.specs.Words.{is_dashes, is_plain}
+use Rattle.xm_options.specs.Inner.Words.{is_dashes, is_plain}
 use Rattle.xm_options.proofs.Plain.{not_text, plain_text}
 use Rattle.xm_options.proofs.read.plain_word.Goals as goal
 

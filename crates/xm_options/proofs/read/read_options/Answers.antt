@@ -1,7 +1,7 @@
 use Rattle.std.proofs.Common.{◌∙◌, map, ap}
 use Rattle.std.specs.List.{list_any}
 use Rattle.std.proofs.lemmas.Result.{IfOk-weaker}
-use Rattle.xm_options.specs.Words.{is_dashes}
+use Rattle.xm_options.specs.Inner.Words.{is_dashes}
 use Rattle.xm_options.proofs.Plain.{no_dashes, not_plain_none}
 use Rattle.xm_options.proofs.Values.{each, within}
 use Rattle.xm_options.proofs.read.read_options.Goals as goal

@@ -2,7 +2,7 @@ use Rattle.std.proofs.Common.{subst, sym}
 use Rattle.std.proofs.lemmas.List.{take_rest}
 use Rattle.std.specs.Prelude.{List}
 use Rattle.xm_order.proofs.Ringing.{ring_at}
-use Rattle.xm_order.specs.Path.{IsRing}
+use Rattle.xm_order.specs.Inner.Path.{IsRing}
 use Rattle.xm_order.specs.declared.signal.Signal.{Signal}
 use Rattle.xm_order.proofs.ring.loop_from.Goals as goal
 

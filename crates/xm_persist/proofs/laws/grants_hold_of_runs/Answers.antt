@@ -1,4 +1,4 @@
-use Rattle.xm_persist.proofs.RightsKept as law
+use Rattle.xm_persist.proofs.RightsHold as law
 use Rattle.xm_persist.proofs.laws.grants_hold_of_runs.Goals as goal
 
 pub returns : goal.returns

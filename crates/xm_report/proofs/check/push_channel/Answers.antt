@@ -2,7 +2,7 @@ use Rattle.std.proofs.Common.{◌++◌, ◌∙◌, ℕ, List, ap, arith, sym}
 use Rattle.std.proofs.lemmas.List.{append-nil}
 use Rattle.std.specs.List.{flat_map}
 use Rattle.xm_colours.specs.Family.{colours_at}
-use Rattle.xm_model.specs.Lines.{name_at}
+use Rattle.xm_model.specs.TextLines.{name_at}
 use Rattle.xm_model.specs.Naming.{naming_of}
 use Rattle.xm_report.proofs.Rising.{line_joined, text_goes_on, up_to-all, up_to-none}
 use Rattle.xm_report.specs.Check.{colour_text}

@@ -1,4 +1,4 @@
-use Rattle.xm_shape.specs.Uses.{noted}
+use Rattle.xm_shape.specs.Lemmas.Uses.{noted}
 use Rattle.xm_shape.proofs.channels.note.Goals as goal
 
 pub returns : goal.returns

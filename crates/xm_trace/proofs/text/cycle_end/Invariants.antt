@@ -4,4 +4,4 @@ use Rattle.std.specs.Prelude.{◌==◌}
 use Rattle.xm_trace.proofs.text.cycle_end.Given as goal
 
 abbrev pub invariant-loop-k : goal.invariant-loop-k
-invariant-loop-k l = l.k + prefix_len (λ m. m.cycle == l.t) (drop l.k l.moves) ≡ l.from + prefix_len (λ m. m.cycle == l.t) (drop l.from l.moves)
+invariant-loop-k l = l.k + prefix_len (λ m. m.cycle == l.cycle) (drop l.k l.moves) ≡ l.from + prefix_len (λ m. m.cycle == l.cycle) (drop l.from l.moves)

@@ -5,4 +5,4 @@ use Rattle.xm_trace.specs.Text.{channel_sums}
 use Rattle.xm_trace.proofs.text.push_channel.Given as goal
 
 abbrev pub invariant-loop-d : goal.invariant-loop-d
-invariant-loop-d l = l.text.items ≡ l.initial.text.items ++ channel_sums (naming_of l.names) (sum_at l.sums (length (naming_of l.names).colours)) l.c l.d
+invariant-loop-d l = l.text.items ≡ l.initial.text.items ++ channel_sums (naming_of l.names) (sum_at l.sums (length (naming_of l.names).colours)) l.channel l.d

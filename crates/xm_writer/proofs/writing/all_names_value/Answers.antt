@@ -4,8 +4,8 @@ use Rattle.std.proofs.lemmas.List.{length-map, map_push, take_all}
 use Rattle.serde_json.specs.Data.{Data, array, string}
 use Rattle.serde_json.specs.View.{items_of}
 use Rattle.serde_json.proofs.Views.{view-Array}
+use Rattle.xm_model.specs.TextLines.{name_at}
 use Rattle.xm_model.specs.Naming.{texts_of}
-use Rattle.xm_writer.specs.Writing.{name_at}
 use Rattle.xm_writer.proofs.Spelled.{grown, view-String}
 use Rattle.xm_writer.proofs.writing.all_names_value.Goals as goal
 

@@ -8,7 +8,7 @@ use Rattle.xm_writer.proofs.writing.net_value.Goals as goal
 
 pub loop-p-preserved : goal.loop-p-preserved
 loop-p-preserved c =
-    let more = grown c.loop-p.values.items c.push.new.self.items _ _ c.in_ok-push.ensures.items c.in_ok-part.ensures in
+    let more = grown c.loop-p.values.items c.push.new.self.items _ _ c.in_ok-push.ensures.items c.in_ok-primitive.ensures in
     rw more (prims_more (naming_of c.args.names.now) c.args.prims.now c.loop-p.p c.index-prims-p.result (map view c.loop-p.values.items) _ c.loop-p-test.true c.index-prims-p.is c.loop-p.invariant)
 
 pub returns : goal.returns

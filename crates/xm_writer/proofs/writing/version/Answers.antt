@@ -1,6 +1,6 @@
 use Rattle.std.proofs.Common.{◌∙◌, sym, refl}
 use Rattle.xm_model.specs.Component.{component_of}
-use Rattle.xm_shape.specs.Uses.{list_any-map}
+use Rattle.xm_json.specs.Lemmas.Lists.{list_any-map}
 use Rattle.xm_writer.specs.Writing.{has_packets, is_fair}
 use Rattle.xm_writer.proofs.writing.version.Goals as goal
 

@@ -1,6 +1,6 @@
 use Rattle.std.proofs.Common.{ap, ◌∙◌, ◌≤◌, length, arith}
 use Rattle.xm_colours.proofs.Reading.{pairs_of, pairs_word}
-use Rattle.xm_colours.specs.Words.{sets_of}
+use Rattle.xm_colours.specs.Inner.Words.{sets_of}
 use Rattle.xm_colours.proofs.colours.Colours.pairs.Goals as goal
 
 pub overflow_add-count : goal.overflow_add-count

@@ -1,7 +1,7 @@
 use Rattle.std.proofs.Common.{◌≡◌, ◌*◌, ◌≤◌, length}
 use Rattle.xm_colours.specs.Family.{colours_at}
 use Rattle.xm_colours.specs.Pairs.{pairs}
-use Rattle.xm_colours.specs.Words.{sets_of}
+use Rattle.xm_colours.specs.Inner.Words.{sets_of}
 use Rattle.xm_colours.proofs.colours.Colours.pairs.Given as goal
 
 abbrev pub invariant-loop-word : goal.invariant-loop-word

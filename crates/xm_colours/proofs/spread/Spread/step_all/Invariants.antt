@@ -1,6 +1,6 @@
 use Rattle.std.proofs.Common.{ℕ}
-use Rattle.xm_colours.specs.Spreading.{IsSpread, work_left}
-use Rattle.xm_colours.specs.Words.{Has}
+use Rattle.xm_colours.specs.Inner.Spreading.{IsSpread, work_left}
+use Rattle.xm_colours.specs.Inner.Words.{Has}
 use Rattle.xm_colours.proofs.spread.Spread.step_all.Given as goal
 
 abbrev pub invariant-loop-self : goal.invariant-loop-self

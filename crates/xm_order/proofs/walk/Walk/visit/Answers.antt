@@ -5,13 +5,13 @@ use Rattle.xm_order.proofs.walk.Walk.visit.Goals as goal
 pub loop-alloc-init : goal.loop-alloc-init
 loop-alloc-init c =
     let left = c.in_ok-enter.ensures in
-    let start = entered_alone _ _ _ _ c.requires.walk c.requires.path _ c.in-Unseen.ensures _ _ _ left.done left.path left.marks in
-    record { walk = start.0.walk; advances = advances_none c.enter.new.self.marks.items }
+    let start = entered_alone _ _ _ _ c.requires.walk c.requires.path _ c.in-Unseen.ensures _ _ _ left.done left.path left.progress in
+    record { walk = start.0.walk; advances = advances_none c.enter.new.self.progress.items }
 
 pub returns : goal.returns
 returns c =
     let left = c.in_ok-enter.ensures in
-    let start = entered_alone _ _ _ _ c.requires.walk c.requires.path _ c.in-Unseen.ensures _ _ _ left.done left.path left.marks in
+    let start = entered_alone _ _ _ _ c.requires.walk c.requires.path _ c.in-Unseen.ensures _ _ _ left.done left.path left.progress in
     let invariant = c.loop-alloc.invariant in
     let none = empty_from c.loop-alloc.self.path.items (c.loop-alloc-test.ensures.0 refl) in
     record {

@@ -1,4 +1,4 @@
-use Rattle.xm_trace.proofs.Telling.{few_shown, had_more}
+use Rattle.xm_trace.proofs.RoundAdded.{few_shown, had_more}
 use Rattle.xm_trace.proofs.run_text.RunText.add.Goals as goal
 
 pub count_moves-requires-clause-room : goal.count_moves-requires-clause-room

@@ -1,5 +1,5 @@
 use Rattle.xm_model.specs.Naming.{naming_of}
-use Rattle.xm_trace.proofs.Telling.{had_ended}
+use Rattle.xm_trace.proofs.RoundAdded.{had_ended}
 use Rattle.xm_trace.proofs.run_text.RunText.end.Goals as goal
 
 pub returns : goal.returns

@@ -1,5 +1,5 @@
 use Rattle.std.proofs.lemmas.Result.{IfOk-weaker}
-use Rattle.xm_trace.proofs.Telling.{had_totals}
+use Rattle.xm_trace.proofs.RoundAdded.{had_totals}
 use Rattle.xm_trace.proofs.run_text.RunText.totals.Goals as goal
 
 pub returns : goal.returns

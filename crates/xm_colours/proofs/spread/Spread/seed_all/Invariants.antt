@@ -1,8 +1,0 @@
-use Rattle.xm_colours.specs.Spreading.{HasGiven, IsSpread}
-use Rattle.xm_colours.proofs.spread.Spread.seed_all.Given as goal
-
-abbrev pub invariant-loop-prim : goal.invariant-loop-prim
-invariant-loop-prim l = record {
-  spread : IsSpread l.net l.self;
-  given : HasGiven l.net l.prim-index l.self.words.items;
-}

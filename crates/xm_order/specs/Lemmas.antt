@@ -1,0 +1,3 @@
+-- Lemmas that proofs of other crates, or of this one, cite.
+pub mod Items
+pub mod SameNext

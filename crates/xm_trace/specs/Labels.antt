@@ -1,9 +1,0 @@
--- Within the crate: what stands before the colour of a move, for each channel.
-use Rattle.std.specs.Prelude.{◌≡◌, ℕ, List, map}
-use Rattle.xm_model.specs.Listing.{Listing}
-use Rattle.xm_model.specs.Naming.{texts_of}
-use Rattle.xm_trace.specs.Text.{move_label}
-
--- the labels of these channels, by number
-abbrev pub AreLabels : List (Listing ℕ) → List (Listing ℕ) → Type 0
-AreLabels channels labels = texts_of labels ≡ map move_label (texts_of channels)

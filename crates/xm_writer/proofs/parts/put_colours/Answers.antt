@@ -1,4 +1,0 @@
-use Rattle.xm_writer.proofs.parts.put_colours.Goals as goal
-
-pub put_names-requires : goal.put_names-requires
-put_names-requires c = rw c.as_slice.ensures c.requires.colours

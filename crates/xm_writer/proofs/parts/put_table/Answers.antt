@@ -1,4 +1,0 @@
-use Rattle.xm_writer.proofs.parts.put_table.Goals as goal
-
-pub table_value-requires : goal.table_value-requires
-table_value-requires c = rw c.as_slice.ensures c.requires.colours
