@@ -5,24 +5,30 @@ ghost use Rattle.std.specs.Prelude.{◌≡◌};
 use crate::{Failed, Sink, Source};
 use std::io::{Read, Write};
 
-/// A reader of std that counts its errors. It tells what is left where the reader does.
+/// A reader or a writer of std with a count of its errors. It tells what is left, or what it holds, where that does.
 #[derive(Drop)]
-pub struct StdSource<R> {
-    inner: R,
+pub struct Counted<T> {
+    inner: T,
     faults: u64,
 }
 
-impl<R: Read> StdSource<R> {
-    /// The reader, with no fault so far.
-    pub fn new(inner: R) -> StdSource<R>
+/// A reader of std as a source.
+pub type StdSource<R> = Counted<R>;
+
+/// A writer of std as a sink. A write that takes nothing of a piece that is not empty is an error too.
+pub type StdSink<W> = Counted<W>;
+
+impl<T> Counted<T> {
+    /// The reader or writer, with no fault so far.
+    pub fn new(inner: T) -> Counted<T>
         ensures inner { result.inner ≡ inner }
         ensures faults { result.faults ≡ 0 }
     {
-        StdSource { inner, faults: 0 }
+        Counted { inner, faults: 0 }
     }
 }
 
-impl<R: Read> Source for StdSource<R> {
+impl<R: Read> Source for Counted<R> {
     ghost left = { λ s. R.remaining s.inner };
 
     ghost faults = { λ s. s.faults };
@@ -38,25 +44,7 @@ impl<R: Read> Source for StdSource<R> {
     }
 }
 
-/// A writer of std that counts its errors, and the writes that take nothing of a piece that is not
-/// empty. It tells what it holds where the writer does.
-#[derive(Drop)]
-pub struct StdSink<W> {
-    inner: W,
-    faults: u64,
-}
-
-impl<W: Write> StdSink<W> {
-    /// The writer, with no fault so far.
-    pub fn new(inner: W) -> StdSink<W>
-        ensures inner { result.inner ≡ inner }
-        ensures faults { result.faults ≡ 0 }
-    {
-        StdSink { inner, faults: 0 }
-    }
-}
-
-impl<W: Write> Sink for StdSink<W> {
+impl<W: Write> Sink for Counted<W> {
     ghost held = { λ s. W.contents s.inner };
 
     ghost faults = { λ s. s.faults };

@@ -13,7 +13,7 @@ ghost use Rattle.std.specs.Io.{ReadsAtMost, WritesAtMost};
 ghost use Rattle.std.specs.Io.KnownBytes.{ReadConsumes, WriteAppends};
 ghost use Rattle.xm_io.specs.Faults.{HasCause};
 
-pub use adapters::{StdSink, StdSource};
+pub use adapters::{Counted, StdSink, StdSource};
 pub use memory_sink::MemSink;
 pub use memory_source::{CleanSource, MemSource};
 pub use transfer::{ReadFault, read_all, write_all};

@@ -1,6 +1,6 @@
 //! The lines of error, one for each cause of refusal.
 
-ghost use Rattle.std.specs.Prelude.{◌≡◌, ◌++◌, ◌==◌, [], if◌then◌else◌, codes, IfOk, OnOk, Some};
+ghost use Rattle.std.specs.Prelude.{◌≡◌, ◌++◌, ◌==◌, [], if◌then◌else◌, codes, decimal, IfOk, OnOk, Some};
 ghost use Rattle.xm_model.specs.TextLines.{line};
 ghost use Rattle.xm_model.specs.Naming.{naming_of};
 ghost use Rattle.xm_report.specs.Lines as spec;
@@ -179,28 +179,35 @@ pub fn document_line(alloc: Global, fault: &DocFault) -> Result<Text, OutOfMemor
     }
 }
 
+/// The line of a row and a number behind it, each with its words.
+fn line_in_row(
+    alloc: Global,
+    words: &[u8],
+    row: u32,
+    between: &[u8],
+    number: u64,
+) -> Result<Text, OutOfMemory>
+    ensures { IfOk result (λ text. text.items ≡ line (words.now ++ decimal row ++ between.now ++ decimal number)) }
+{
+    let mut text = Text::new(alloc);
+    text.push_bytes(words)?;
+    push_count(&mut text, u64::from(row))?;
+    text.push_bytes(between)?;
+    push_count(&mut text, number)?;
+    text.push_bytes(b"\n")?;
+    Ok(text)
+}
+
 fn row_line(alloc: Global, row: u32, bytes: u64) -> Result<Text, OutOfMemory>
     ensures { IfOk result (λ text. text.items ≡ spec.row_line row bytes) }
 {
-    let mut text = Text::new(alloc);
-    text.push_bytes(b"tape: row ")?;
-    push_count(&mut text, u64::from(row))?;
-    text.push_bytes(b" length ")?;
-    push_count(&mut text, bytes)?;
-    text.push_bytes(b"\n")?;
-    Ok(text)
+    line_in_row(alloc, b"tape: row ", row, b" length ", bytes)
 }
 
 fn mark_line(alloc: Global, row: u32, oracle: u32) -> Result<Text, OutOfMemory>
     ensures { IfOk result (λ text. text.items ≡ spec.mark_line row oracle) }
 {
-    let mut text = Text::new(alloc);
-    text.push_bytes(b"tape: mark ")?;
-    push_count(&mut text, u64::from(row))?;
-    text.push_bytes(b" ")?;
-    push_count(&mut text, u64::from(oracle))?;
-    text.push_bytes(b"\n")?;
-    Ok(text)
+    line_in_row(alloc, b"tape: mark ", row, b" ", u64::from(oracle))
 }
 
 fn cycles_line(alloc: Global, count: u64) -> Result<Text, OutOfMemory>
