@@ -2,14 +2,4 @@
 #![tactic(auto)]
 
 #[cfg(test)]
-mod commands;
-#[cfg(test)]
-mod documents;
-#[cfg(test)]
-mod helpers;
-#[cfg(test)]
-mod inputs;
-#[cfg(test)]
-mod texts;
-#[cfg(test)]
-mod words;
+mod suites;

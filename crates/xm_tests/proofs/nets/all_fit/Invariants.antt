@@ -1,8 +1,0 @@
-use Rattle.std.proofs.Common.{take, map}
-use Rattle.std.specs.List.{All}
-use Rattle.xm_model.specs.Component.{component_of}
-use Rattle.xm_tests.specs.Inner.Fitting.{Fits}
-use Rattle.xm_tests.proofs.nets.all_fit.Given as goal
-
-abbrev pub invariant-loop-prim : goal.invariant-loop-prim
-invariant-loop-prim l = All (λ prim. Fits l.channels l.colours (component_of prim)) (take l.prim-index l.prims)

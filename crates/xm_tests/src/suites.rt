@@ -1,0 +1,14 @@
+//! A suite for each layer, and what they build on: nets as tables, and names.
+
+mod colours;
+mod cycles;
+mod designs;
+mod lists_and_nets;
+mod names;
+mod nets;
+mod orders;
+mod persistency;
+mod rows;
+mod runs;
+mod streams;
+mod tapes;

@@ -1,0 +1,8 @@
+//! A suite for each of them, the documents of the top call, and helpers.
+
+mod commands;
+mod documents;
+mod helpers;
+mod inputs;
+mod texts;
+mod words;

@@ -1,0 +1,18 @@
+//! Texts that are just what is expected, and the words of a line.
+
+use std::alloc::Global;
+use xm_model::{List, OutOfMemory, Text};
+
+/// Whether the text was made, and is just this.
+pub fn is_text(text: Result<Text, OutOfMemory>, expected: &str) -> bool {
+    text.is_ok_and(|text| text.as_bytes() == expected.as_bytes())
+}
+
+/// The words of a line, which stand apart by spaces.
+pub fn words_in(alloc: Global, line: &str) -> Result<List<Text>, OutOfMemory> {
+    let mut words = List::new(alloc);
+    for word in line.split_ascii_whitespace() {
+        words.push(Text::from_bytes(alloc, word.as_bytes())?)?;
+    }
+    Ok(words)
+}
