@@ -17,18 +17,18 @@ use Rattle.xm_design.specs.Designed.{Designed, IsColourRefused, IsLoopRefused}
 use Rattle.xm_model.specs.Net.{IsNet, Network}
 use Rattle.xm_model.specs.Steps.{◌>>=◌, demand}
 use Rattle.xm_netlist.specs.Doc.{Doc}
-use Rattle.xm_netlist.specs.Numbered.{naming_in, net_of, wired}
-use Rattle.xm_netlist.specs.Reading.{doc_from, document_in, document_of, json_of, numbered}
-use Rattle.xm_netlist.specs.Tests.{coloured, limited, named}
+use Rattle.xm_netlist.specs.Numbered.{check_wiring, naming_in, net_of}
+use Rattle.xm_netlist.specs.Reading.{doc_from, document_in, document_of, json_of, number_net}
+use Rattle.xm_netlist.specs.Checks.{check_colours, check_names, check_sizes}
 use Rattle.xm_order.specs.Dependence.{IsOrder}
 use Rattle.xm_order.specs.Loop.{IsLoop, NoLoop}
 use Rattle.xm_order.specs.OneRun.{OneRun}
 use Rattle.xm_order.specs.declared.signal.Signal.{Signal}
 use Rattle.xm_report.specs.Check.{check_text}
 use Rattle.xm_report.specs.Lines.{colour_line, document_line, tape_line}
-use Rattle.xm_shape.specs.Draft.{Draft}
+use Rattle.xm_shape.specs.NamedNet.{NamedNet}
 use Rattle.xm_shape.specs.Fault.{Fault, not_json}
-use Rattle.xm_shape.specs.Shape.{draft_in}
+use Rattle.xm_shape.specs.Shape.{named_net_in}
 use Rattle.xm_tape.specs.Reading.{tape_in}
 use Rattle.xm_tape.specs.Taped.{Taped, chosen, cycles_of, rows_of}
 use Rattle.xm_trace.specs.Text.{IsTextOfRun}
@@ -47,20 +47,20 @@ bound : {A B : Type 0} (r : Result A Fault) (f : A → Result B Fault) (y : B) �
 bound (Ok x) f y e = (x, e)
 bound (Err fault) f y e = cc
 
-names_of_draft : (draft : Draft) (tape proof : Option Data) (doc : Doc) → numbered draft tape proof ≡ Ok doc → length doc.names.channels ≡ doc.net.channels
-unfolding numbered net_of naming_in
+names_of_draft : (draft : NamedNet) (tape proof : Option Data) (doc : Doc) → number_net draft tape proof ≡ Ok doc → length doc.names.channels ≡ doc.net.channels
+unfolding number_net net_of naming_in
 names_of_draft draft tape proof doc e =
-    let names = bound (named draft) _ doc e in
-    let colours = bound (coloured draft) _ doc names.1 in
-    let sizes = bound (limited draft) _ doc colours.1 in
-    let wires = bound (wired (net_of draft) (naming_in draft)) _ doc sizes.1 in
+    let names = bound (check_names draft) _ doc e in
+    let colours = bound (check_colours draft) _ doc names.1 in
+    let sizes = bound (check_sizes draft) _ doc colours.1 in
+    let wires = bound (check_wiring (net_of draft) (naming_in draft)) _ doc sizes.1 in
     let same : doc_from draft tape proof ≡ doc = cc (wires.1) in
     subst (λ (x : Doc). length x.names.channels ≡ x.net.channels) same refl
 
 names_of_data : (d : Data) (doc : Doc) → document_of d ≡ Ok doc → length doc.names.channels ≡ doc.net.channels
 unfolding document_of
 names_of_data d doc e =
-    let draft = bound (draft_in d) _ doc e in
+    let draft = bound (named_net_in d) _ doc e in
     names_of_draft draft.0 (get (codes "tape") d) (get (codes "proof") d) doc draft.1
 
 channels_named : (bytes : List ℕ) (doc : Doc) → document_in bytes ≡ Ok doc → length doc.names.channels ≡ doc.net.channels

@@ -1,19 +1,11 @@
 -- A net has one least family of colours, and one first pair that a list refuses.
-use Rattle.std.proofs.Common.{◌≡◌, ℕ, ◌<◌, ◌≤◌, List, [], ◌∷◌, refl, sym, inl, inr, arith}
+use Rattle.std.proofs.Common.{◌≡◌, ℕ, ◌≤◌, List, [], ◌∷◌, refl, sym, inl, inr, arith}
 use Rattle.xm_colours.specs.Allowing.{IsFirstRefused, IsUpTo}
+use Rattle.xm_colours.specs.Lemmas.Rising.{above, rises_on}
 use Rattle.xm_colours.specs.Family.{AreColours, Rises, Within}
 use Rattle.xm_model.specs.Naming.{Allowed}
 use Rattle.xm_model.specs.Net.{Network}
 use Rattle.xm_model.specs.Membership.{IsIn}
-
-above : (x : ℕ) (ys : List ℕ) → Rises (x ∷ ys) → (d : ℕ) → IsIn ys d → x < d
-above x [] rise d inside = absurd inside
-above x (y ∷ ys) rise d (inl same) = let low = rise.0 in omega arith
-above x (y ∷ ys) rise d (inr rest) = let low = rise.0 in let further = above y ys rise.1 d rest in omega arith
-
-rises_on : (x : ℕ) (ys : List ℕ) → Rises (x ∷ ys) → Rises ys
-rises_on x [] rise = tt
-rises_on x (y ∷ ys) rise = rise.1
 
 -- the least of a list that rises is below no other's least
 first_low : (x y : ℕ) (xs ys : List ℕ) → Rises (x ∷ xs) → IsIn (x ∷ xs) y → x ≤ y

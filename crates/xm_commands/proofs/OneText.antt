@@ -9,7 +9,7 @@ use Rattle.xm_model.specs.Run.{is_offer, moves}
 use Rattle.xm_model.specs.Signals.{Signals, only_if}
 use Rattle.xm_order.specs.OneFrame.{SameFrame}
 use Rattle.xm_trace.specs.Moves.{cycle_moves, moved_on}
-use Rattle.xm_trace.specs.Text.{channel_sums, cycle_line, cycle_lines, move_text, run_text, sum_line, sum_lines}
+use Rattle.xm_trace.specs.Text.{channel_sums, cycle_line, move_text, round_lines, run_text, sum_line, sum_lines}
 use Rattle.xm_trace.specs.declared.trace.Move.{Move}
 
 joined : {a b c d : List ℕ} → a ≡ b → c ≡ d → a ++ c ≡ b ++ d
@@ -26,9 +26,9 @@ module _ (net : Network) (names : Naming) (named : length names.channels ≡ net
   same_line : (t : ℕ) → t < cycles → cycle_line names φ t ≡ cycle_line names ψ t
   same_line t now = ap (λ (xs : List Move). line (decimal t ++ flat_map (move_text names) xs)) (same_moves t (length names.channels) now (omega arith))
 
-  same_lines : (n : ℕ) → n ≤ cycles → cycle_lines names φ n ≡ cycle_lines names ψ n
+  same_lines : (n : ℕ) → n ≤ cycles → round_lines names φ 0 n ≡ round_lines names ψ 0 n
   same_lines zero few = refl
-  same_lines (suc t) few = joined (same_lines t (omega arith)) (same_line t (omega arith))
+  same_lines (suc t) few = joined (same_lines t (omega arith)) (same_line (0 + t) (omega arith))
 
   same_count : (c d n : ℕ) → c < net.channels → n ≤ cycles → moves φ c d n ≡ moves ψ c d n
   same_count c d zero here few = refl
@@ -43,4 +43,4 @@ module _ (net : Network) (names : Naming) (named : length names.channels ≡ net
   same_sums (suc c) few = joined (same_sums c (omega arith)) (same_channel c (length names.colours) (omega arith))
 
   pub same_text : run_text names φ cycles ≡ run_text names ψ cycles
-  same_text = joined (joined (same_lines cycles (omega arith)) (same_sums (length names.channels) (omega arith))) refl
+  same_text = joined (same_lines cycles (omega arith)) (joined (same_sums (length names.channels) (omega arith)) refl)

@@ -4,6 +4,7 @@ use Rattle.std.proofs.lemmas.Bool.{cases_lt, cond-false, cond-true, lt-ltb, le-l
 use Rattle.std.proofs.lemmas.Grind.{flat_map-append}
 use Rattle.std.proofs.lemmas.List.{append-nil}
 use Rattle.std.proofs.lemmas.List.Concat.{flat_map-cons}
+use Rattle.xm_colours.specs.Lemmas.Rising.{above, rises_on}
 use Rattle.xm_colours.specs.Family.{Rises}
 use Rattle.std.specs.List.{flat_map}
 use Rattle.std.specs.Prelude.{IsTrue, OnOk, ◌↔◌}
@@ -30,15 +31,6 @@ up_to-none d (x ∷ xs) h = up_to-above d x xs (h x (inl refl)) ∙ up_to-none d
 pub up_to-all : (d : ℕ) (xs : List ℕ) → ((e : ℕ) → IsIn xs e → e < d) → up_to d xs ≡ xs
 up_to-all d [] h = refl
 up_to-all d (x ∷ xs) h = up_to-below d x xs (h x (inl refl)) ∙ ap (λ (l : List ℕ). x ∷ l) (up_to-all d xs (λ e inside. h e (inr inside)))
-
-above : (x : ℕ) (ys : List ℕ) → Rises (x ∷ ys) → (d : ℕ) → IsIn ys d → x < d
-above x [] rise d inside = absurd inside
-above x (y ∷ ys) rise d (inl same) = let low = rise.0 in omega arith
-above x (y ∷ ys) rise d (inr rest) = let low = rise.0 in let further = above y ys rise.1 d rest in omega arith
-
-rises_on : (x : ℕ) (ys : List ℕ) → Rises (x ∷ ys) → Rises ys
-rises_on x [] rise = tt
-rises_on x (y ∷ ys) rise = rise.1
 
 -- one more number, which is in the list, or not
 pub up_to-in : (d : ℕ) (xs : List ℕ) → Rises xs → IsIn xs d → up_to (d + 1) xs ≡ up_to d xs ++ d ∷ []
