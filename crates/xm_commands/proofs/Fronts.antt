@@ -43,3 +43,10 @@ front_more held mid now before lines rest text same first more =
       omega (arith, within, ap length same, length-append (before ++ lines) rest, length-append before lines),
       subst (λ (t : List ℕ). Appends held now t) (sym taken) (Appends-then held mid now before (take n lines) first more.2),
     )
+
+-- nothing is a front of every text
+pub nothing_front : (held : Option (List ℕ)) (text : List ℕ) → AppendsFront held held text
+nothing_front held text = (0, omega arith, appends_nothing held)
+
+pub front_same : (held now : Option (List ℕ)) (a b : List ℕ) → a ≡ b → AppendsFront held now a → AppendsFront held now b
+front_same held now a b same = subst (λ (t : List ℕ). AppendsFront held now t) same

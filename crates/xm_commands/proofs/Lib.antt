@@ -5,5 +5,6 @@ mod OneColours
 mod OneText
 mod Ran
 mod Refusing
+mod Rounds
 mod Whys
 mod Written

@@ -1,3 +1,4 @@
 -- What private clauses cite, and no public one.
 pub mod Prepared
+pub mod RunSoFar
 pub mod WhyEnded

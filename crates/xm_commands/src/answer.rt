@@ -51,7 +51,7 @@ fn answer_run<K: Sink>(alloc: Global, prepared: &Prepared, out: &mut K) -> Resul
         → HasAnswered bytes command.Run (change K.held K.faults out.old out.new) result }
 {
     one_run();
-    let _net = prepared.design.net();
+    prepared.design.net().is_net();
     match read_tape(alloc, &prepared.design, prepared.tape.as_ref()) {
         Ok(tape) => write_run(alloc, &prepared.design, &prepared.names, &tape, out),
         Err(fault) => Err(tape_refusal(alloc, &fault)),
