@@ -1,3 +1,4 @@
+-- How the first two primitives at each channel go on as ports are met.
 use Rattle.std.proofs.Common.{◌≡◌, ◌≢◌, ℕ, ◌+◌, ◌<◌, List, [], ◌∷◌, ◌++◌, length, map, get_or, set, refl, ap, sym, ◌∙◌, arith, inl, inr, add-zero, append_assoc, take, length-take, subst, eq-eqb, ne_eqb, length-set, append-nil}
 use Rattle.std.proofs.lemmas.Bool.Decides.{eqb_tells}
 use Rattle.std.specs.List.{All}

@@ -83,6 +83,7 @@ pub fn push_drawn_rows(
 {
     let mut number = seed;
     for t in 0..cycles {
+        // The proof counts the rows by it.
         let _cycle = t;
         number = push_drawn_row(choices, oracles, number)?;
     }
