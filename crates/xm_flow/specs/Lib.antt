@@ -1,0 +1,4 @@
+pub mod FlowRows
+pub mod Holding
+pub mod Inner
+pub mod ValidLemma
