@@ -7,7 +7,7 @@ use Rattle.std.proofs.Math.IntN.{*ℤ_comm, *ℤ-zero}
 use Rattle.std.proofs.Math.Nat.{pos_of_dvd_of_pos}
 use Rattle.xm_rows.specs.Row.{Fits128}
 use Rattle.xm_rows.specs.Combination.{AreFactors}
-use Rattle.xm_rows.proofs.Integers.{abs_positive, quotient_times, one_times, negated, times_negated, assoc, one_factor}
+use Rattle.xm_rows.specs.Lemmas.Integers.{abs_positive, quotient_times, one_times, negated, times_negated, assoc, one_factor}
 
 pub gcd_positive : (a b : ℤ) (g : ℕ) → b ≢ pos 0 → IsGcd (unsigned_abs a) (unsigned_abs b) g → 0 < g
 gcd_positive a b g nonzero h = pos_of_dvd_of_pos h.1 (abs_positive b nonzero)

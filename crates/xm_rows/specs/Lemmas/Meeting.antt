@@ -8,9 +8,9 @@ use Rattle.xm_rows.specs.declared.row.Entry.{Entry}
 use Rattle.xm_rows.specs.Row.{SparseRow, coefficient, left_side}
 use Rattle.xm_rows.specs.Divisor.{IsPrimitiveOf}
 use Rattle.xm_rows.specs.Points.{KeepsPoints, GivesBackPoints, OnePairOfFactors, PrimitiveKeepsPoints}
-use Rattle.xm_rows.proofs.Integers.{distrib, distrib_right, assoc, negated, one_times, one_factor, crossed, times_difference}
-use Rattle.xm_rows.proofs.Entries.{own_column, other_column}
-use Rattle.xm_rows.proofs.Factors.{gcd_positive}
+use Rattle.xm_rows.specs.Lemmas.Integers.{distrib, distrib_right, assoc, negated, one_times, one_factor, crossed, times_difference}
+use Rattle.xm_rows.specs.Lemmas.Entries.{own_column, other_column}
+use Rattle.xm_rows.specs.Lemmas.Factors.{gcd_positive}
 
 -- ---- a left side, summed column by column
 
@@ -19,11 +19,11 @@ abbrev pub column_sum : ℕ → (ℕ → ℤ) → ℤ
 column_sum zero f = pos 0
 column_sum (suc n) f = column_sum n f +ℤ f n
 
-sum_same : (n : ℕ) (f g : ℕ → ℤ) → ((k : ℕ) → f k ≡ g k) → column_sum n f ≡ column_sum n g
+pub sum_same : (n : ℕ) (f g : ℕ → ℤ) → ((k : ℕ) → f k ≡ g k) → column_sum n f ≡ column_sum n g
 sum_same zero f g h = refl
 sum_same (suc n) f g h = ap₂ ◌+ℤ◌ (sum_same n f g h) (h n)
 
-sum_none : (n : ℕ) (f : ℕ → ℤ) → ((k : ℕ) → f k ≡ pos 0) → column_sum n f ≡ pos 0
+pub sum_none : (n : ℕ) (f : ℕ → ℤ) → ((k : ℕ) → f k ≡ pos 0) → column_sum n f ≡ pos 0
 sum_none zero f h = refl
 sum_none (suc n) f h = let before = sum_none n f h in let here = h n in omega (arith, ints)
 
@@ -75,7 +75,7 @@ abbrev above : List Entry → ℕ
 above [] = 0
 above (e ∷ es) = e.column + 1 + above es
 
-by_columns : (es : List Entry) (n : ℕ) (x : ℕ → ℤ) → above es ≤ n → left_side es x ≡ column_sum n (λ k. coefficient es k *ℤ x k)
+pub by_columns : (es : List Entry) (n : ℕ) (x : ℕ → ℤ) → above es ≤ n → left_side es x ≡ column_sum n (λ k. coefficient es k *ℤ x k)
 by_columns [] n x h = sym (sum_none n (λ k. pos 0 *ℤ x k) (λ k. zero-*ℤ (x k)))
 by_columns (e ∷ es) n x h =
     let first = term_sum n e.column e.value x (omega arith) in
@@ -116,7 +116,7 @@ scaled_constants d u v m a b c e =
     crossed m d a ∙ ap (λ (z : ℤ). m *ℤ z) e ∙ times_difference m (u *ℤ b) (v *ℤ c)
     ∙ ap₂ ◌-ℤ◌ (crossed u m b) (crossed v m c)
 
-positive_nonzero : (d : ℕ) → 0 < d → pos d ≢ pos 0
+pub positive_nonzero : (d : ℕ) → 0 < d → pos d ≢ pos 0
 positive_nonzero d some e = absurd (omega (arith, ints))
 
 pub keeps_points : KeepsPoints
