@@ -1,8 +1,9 @@
 -- The columns of a design: each stands once, and each term of a flow row has one.
-use Rattle.std.proofs.Common.{◌≡◌, ℕ, zero, suc, ◌+◌, ◌<◌, ◌≤◌, inl, inr, List, [], ◌∷◌, ◌++◌, length, map, slice_get, slice_index, Some, Bool, true, false, cond, nat_eq, nat_lt, refl, sym, ◌∙◌, ap, ap₂, subst, arith, All}
+use Rattle.std.proofs.Common.{◌≡◌, ℕ, zero, suc, ◌+◌, ◌<◌, ◌≤◌, inl, inr, List, [], ◌∷◌, ◌++◌, length, map, option_map, slice_get, slice_index, Some, Bool, true, false, cond, nat_eq, nat_lt, refl, sym, ◌∙◌, ap, ap₂, subst, arith, All}
 use Rattle.std.proofs.lemmas.Bool.{cases_Bool, cases_eq, cond-true, cond-false, ltb-true, ne_eqb}
 use Rattle.std.proofs.lemmas.List.{length-map}
 use Rattle.std.proofs.lemmas.List.Elements.{All-cons, All-nil}
+use Rattle.std.proofs.lemmas.Option.{slice_get-map, slice_get_within}
 use Rattle.xm_colours.specs.Family.{Rises, colours_at}
 use Rattle.xm_colours.specs.Pairs.{pairs, queue_pairs, queue_pairs_at}
 use Rattle.xm_design.specs.Designed.{Designed, IsDesigned}
@@ -14,11 +15,12 @@ use Rattle.xm_model.specs.Membership.{IsIn, times}
 use Rattle.xm_model.specs.Signals.{at_side}
 use Rattle.xm_model.specs.declared.primitive.Side.{Side}
 use Rattle.xm_model.specs.declared.primitive.Side.TheVariants.{A, B}
+use Rattle.xm_order.specs.Lemmas.Items.{get-append_left, get-append_right}
 use Rattle.xm_flow.specs.FlowRows.{Column, Count, FlowRow, Moves, Term, columns, count_of, flow_rows, if_coloured, image_row, merge_row, minus, moves_of, plus, queue_row, rows_at, rows_from, same_row, sides_row, taken_to}
 use Rattle.xm_flow.specs.Holding.{pair_count}
-use Rattle.xm_flow.proofs.Listing.{all_append, all_mapped}
+use Rattle.xm_flow.specs.Lemmas.Listing.{all_append, all_mapped}
 use Rattle.xm_flow.proofs.Numbering.{AreApart, IsListed}
-use Rattle.xm_flow.proofs.Rising.{above, rises_on}
+use Rattle.xm_colours.specs.Lemmas.Rising.{above, rises_on}
 
 -- ---- items that stand once
 
@@ -53,10 +55,11 @@ mapped_at f [] i y at = cc
 mapped_at f (x ∷ xs) zero y at = let is : f x ≡ y = cc in (x, (refl, is))
 mapped_at f (x ∷ xs) (suc i) y at = mapped_at f xs i y at
 
+get_right : {X : Type 0} (xs ys : List X) (i : ℕ) (x : X) → slice_get ys i ≡ Some x → slice_get (xs ++ ys) (length xs + i) ≡ Some x
+get_right xs ys i x at = get-append_right xs ys (length xs + i) i refl ∙ at
+
 map_at : {X Y : Type 0} (f : X → Y) (xs : List X) (i : ℕ) (x : X) → slice_get xs i ≡ Some x → slice_get (map f xs) i ≡ Some (f x)
-map_at f [] i x at = cc
-map_at f (z ∷ xs) zero x at = let is : z ≡ x = cc in ap (λ y. Some (f y)) is
-map_at f (z ∷ xs) (suc i) x at = map_at f xs i x at
+map_at f xs i x at = slice_get-map f xs i ∙ ap (option_map f) at
 
 apart_map : {X Y : Type 0} (f : X → Y) → ((x y : X) → f x ≡ f y → x ≡ y) → (xs : List X) → Apart xs → Apart (map f xs)
 apart_map f inj xs p i j y at_i at_j =
@@ -83,15 +86,6 @@ apart_rising (d ∷ ds) up zero (suc j) x at_i at_j =
 apart_rising (d ∷ ds) up (suc i) zero x at_i at_j =
     let is : d ≡ x = cc in let low = above d ds up x (in_at ds i x at_i) in absurd (omega arith)
 apart_rising (d ∷ ds) up (suc i) (suc j) x at_i at_j = ap suc (apart_rising ds (rises_on d ds up) i j x at_i at_j)
-
-get_left : {X : Type 0} (xs ys : List X) (i : ℕ) (x : X) → slice_get xs i ≡ Some x → slice_get (xs ++ ys) i ≡ Some x
-get_left [] ys i x at = cc
-get_left (z ∷ xs) ys zero x at = at
-get_left (z ∷ xs) ys (suc i) x at = get_left xs ys i x at
-
-get_right : {X : Type 0} (xs ys : List X) (i : ℕ) (x : X) → slice_get ys i ≡ Some x → slice_get (xs ++ ys) (length xs + i) ≡ Some x
-get_right [] ys i x at = let same : 0 + i ≡ i = omega arith in rw same at
-get_right (z ∷ xs) ys i x at = let same : suc (length xs) + i ≡ suc (length xs + i) = omega arith in rw same (get_right xs ys i x at)
 
 -- ---- pairs
 
@@ -163,7 +157,7 @@ module _ (colours : ℕ → List ℕ) (rise : (c : ℕ) → Rises (colours c)) w
             (length (pairs colours n) + i.0, get_right (pairs colours n) (map (λ e. (n, e)) (colours n)) i.0 (n, d) here ∙ ap (λ (k : ℕ). Some (k, d)) (sym same))
         | inr other ↦
             let rest = pair_listed n c d (omega arith) h in
-            (rest.0, get_left (pairs colours n) (map (λ e. (n, e)) (colours n)) rest.0 (c, d) rest.1)
+            (rest.0, get-append_left (pairs colours n) (map (λ e. (n, e)) (colours n)) rest.0 (c, d) rest.1)
       ]
 
   queue_listed : (p : ℕ) (ms : List Component) (i input out capacity d : ℕ) (initial : List ℕ) → slice_get ms i ≡ Some (Queue input out capacity initial) → IsIn (colours out) d →
@@ -174,7 +168,7 @@ module _ (colours : ℕ → List ℕ) (rise : (c : ℕ) → Rises (colours c)) w
       let j = at_in (colours out) d h in
       let same : p ≡ p + 0 = omega arith in
       let here : slice_get (queue_pairs_at colours p m) j.0 ≡ Some (p, d) = ap (λ (x : Component). slice_get (queue_pairs_at colours p x) j.0) is ∙ map_at {X = ℕ} {Y = ℕ × ℕ} (λ e. (p, e)) (colours out) j.0 d j.1 in
-      (j.0, get_left (queue_pairs_at colours p m) (queue_pairs colours (suc p) ms) j.0 (p, d) here ∙ ap (λ (k : ℕ). Some (k, d)) same)
+      (j.0, get-append_left (queue_pairs_at colours p m) (queue_pairs colours (suc p) ms) j.0 (p, d) here ∙ ap (λ (k : ℕ). Some (k, d)) same)
   queue_listed p (m ∷ ms) (suc i) input out capacity d initial at h =
       let rest = queue_listed (suc p) ms i input out capacity d initial at h in
       let same : suc p + i ≡ p + suc i = omega arith in (
@@ -235,7 +229,7 @@ module _ (it : Designed) (designed : IsDesigned it) where
   moves_listed c d below h =
       let ps = pairs (colours_at it.colours) it.net.channels in
       let i = pair_listed (colours_at it.colours) designed.colours.rise it.net.channels c d below h in
-      record { place = i.0; at = get_left (map moves_of ps) (map count_of (queue_pairs (colours_at it.colours) 0 it.net.prims)) i.0 (Moves c d) (map_at moves_of ps i.0 (c, d) i.1) }
+      record { place = i.0; at = get-append_left (map moves_of ps) (map count_of (queue_pairs (colours_at it.colours) 0 it.net.prims)) i.0 (Moves c d) (map_at moves_of ps i.0 (c, d) i.1) }
 
   count_listed : (p input out capacity d : ℕ) (initial : List ℕ) → HasPrim it.net p (Queue input out capacity initial) → IsIn (colours_at it.colours out) d → IsListed (columns it) (Count p d)
   count_listed p input out capacity d initial has h =
@@ -332,11 +326,6 @@ module _ (it : Designed) (designed : IsDesigned it) where
 
 -- ---- by number
 
-pub below_length : {X : Type 0} (xs : List X) (i : ℕ) (x : X) → slice_get xs i ≡ Some x → i < length xs
-below_length [] i x at = cc
-below_length (y ∷ ys) zero x at = omega arith
-below_length (y ∷ ys) (suc i) x at = let rest = below_length ys i x at in omega arith
-
 pub pair_at : (colours : ℕ → List ℕ) (n c i d : ℕ) → c < n → slice_get (colours c) i ≡ Some d → slice_get (pairs colours n) (length (pairs colours c) + i) ≡ Some (c, d)
 pair_at colours zero c i d below at = absurd (omega arith)
 pair_at colours (suc n) c i d below at =
@@ -346,7 +335,7 @@ pair_at colours (suc n) c i d below at =
           (get_right (pairs colours n) (map (λ e. (n, e)) (colours n)) i (n, d)
           (map_at {X = ℕ} {Y = ℕ × ℕ} (λ e. (n, e)) (colours n) i d (ap (λ (k : ℕ). slice_get (colours k) i) (sym same) ∙ at)))
       | inr other ↦
-          get_left (pairs colours n) (map (λ e. (n, e)) (colours n)) (length (pairs colours c) + i) (c, d) (pair_at colours n c i d (omega arith) at)
+          get-append_left (pairs colours n) (map (λ e. (n, e)) (colours n)) (length (pairs colours c) + i) (c, d) (pair_at colours n c i d (omega arith) at)
     ]
 
 pub move_column : (it : Designed) (c d i b : ℕ) → b ≡ length (pairs (colours_at it.colours) c) → c < it.net.channels → slice_get (colours_at it.colours c) i ≡ Some d →
@@ -355,12 +344,12 @@ move_column it c d i b is below at =
     let ps = pairs (colours_at it.colours) it.net.channels in
     let qs = queue_pairs (colours_at it.colours) 0 it.net.prims in
     subst (λ (n : ℕ). slice_get (columns it) (n + i) ≡ Some (Moves c d)) (sym is)
-    (get_left (map moves_of ps) (map count_of qs) (length (pairs (colours_at it.colours) c) + i) (Moves c d)
+    (get-append_left (map moves_of ps) (map count_of qs) (length (pairs (colours_at it.colours) c) + i) (Moves c d)
     (map_at moves_of ps (length (pairs (colours_at it.colours) c) + i) (c, d) (pair_at (colours_at it.colours) it.net.channels c i d below at)))
 
 pub move_below : (it : Designed) (c d i b : ℕ) → b ≡ length (pairs (colours_at it.colours) c) → c < it.net.channels → slice_get (colours_at it.colours c) i ≡ Some d → b + i < pair_count it
 move_below it c d i b is below at =
-    let low = below_length (pairs (colours_at it.colours) it.net.channels) (length (pairs (colours_at it.colours) c) + i) (c, d) (pair_at (colours_at it.colours) it.net.channels c i d below at) in
+    let low = slice_get_within (pairs (colours_at it.colours) it.net.channels) (length (pairs (colours_at it.colours) c) + i) (c, d) (pair_at (colours_at it.colours) it.net.channels c i d below at) in
     omega arith
 
 pub count_column : (it : Designed) (q d j m : ℕ) → m ≡ pair_count it → slice_get (queue_pairs (colours_at it.colours) 0 it.net.prims) j ≡ Some (q, d) → slice_get (columns it) (m + j) ≡ Some (Count q d)

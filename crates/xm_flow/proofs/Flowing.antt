@@ -25,7 +25,7 @@ use Rattle.xm_order.specs.declared.signal.Signal.{Signal}
 use Rattle.xm_flow.specs.FlowRows.{Column, Count, FlowRow, Moves, Term, if_coloured, image_row, merge_row, minus, plus, queue_row, row_value, rows_at, rows_from, same_row, sides_row, taken_to}
 use Rattle.xm_flow.specs.Holding.{column_value}
 use Rattle.xm_flow.proofs.Image.{total, image_flow, value-append, value-minus, value-plus, function_moves, fork_moves_a, fork_moves_b, join_moves, switch_moves, same_moves, same_totals, to_a_same, to_b_same}
-use Rattle.xm_flow.proofs.Listing.{all_append, all_mapped}
+use Rattle.xm_flow.specs.Lemmas.Listing.{all_append, all_mapped}
 use Rattle.xm_flow.proofs.Rising.{once_in}
 
 times-joined : (d : ℕ) (ps : List ℕ) (arrival : Option ℕ) → times d (joined ps arrival) ≡ times d ps + cond (is_offer d arrival) 1 0

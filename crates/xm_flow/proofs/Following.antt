@@ -4,10 +4,10 @@ use Rattle.std.proofs.lemmas.Bool.{cases_eq, cases_lt}
 use Rattle.std.proofs.lemmas.Int.{ints}
 use Rattle.std.proofs.lemmas.List.Elements.{All-head, All-tail, All-weaker}
 use Rattle.std.proofs.Math.IntN.{*ℤ-zero}
-use Rattle.xm_rows.proofs.Entries.{coefficient-append, coefficient_absent, own_column, other_column}
-use Rattle.xm_rows.proofs.Integers.{assoc, distrib, one_factor, one_times}
-use Rattle.xm_rows.proofs.Meeting.{combined_sides}
-use Rattle.xm_rows.proofs.Sums.{left_side-append}
+use Rattle.xm_rows.specs.Lemmas.Entries.{coefficient-append, coefficient_absent, own_column, other_column}
+use Rattle.xm_rows.specs.Lemmas.Integers.{assoc, distrib, one_factor, one_times}
+use Rattle.xm_rows.specs.Lemmas.Meeting.{combined_sides}
+use Rattle.xm_rows.specs.Lemmas.Sums.{left_side-append}
 use Rattle.xm_rows.specs.Points.{Meets}
 use Rattle.xm_rows.specs.Row.{SparseRow, coefficient, left_side}
 use Rattle.xm_rows.specs.declared.row.Entry.{Entry}

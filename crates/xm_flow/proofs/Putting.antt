@@ -6,7 +6,7 @@ use Rattle.std.proofs.lemmas.Bool.{cases_eq}
 use Rattle.std.proofs.lemmas.Int.{ints}
 use Rattle.std.proofs.lemmas.List.{take_more, drop_more, drop_all}
 use Rattle.std.proofs.lemmas.List.Elements.{All-head, All-tail, All-cons, All-nil, All-push, All-weaker}
-use Rattle.xm_rows.proofs.Entries.{other_column, own_column, rising_above, rising_tail}
+use Rattle.xm_rows.specs.Lemmas.Entries.{other_column, own_column, rising_above, rising_tail}
 use Rattle.xm_rows.specs.Row.{Fits128, IsRising, IsRow, SparseRow, coefficient}
 use Rattle.xm_rows.specs.declared.row.Entry.{Entry}
 use Rattle.xm_flow.specs.Inner.Building.{IsRowOf, IsSum, Put, front, further, gone, joined}

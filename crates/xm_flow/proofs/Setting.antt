@@ -1,11 +1,11 @@
 -- Colours listed from the least on, and counted.
-use Rattle.std.proofs.Common.{◌≡◌, ◌≢◌, ℕ, ◌+◌, ◌<◌, ◌≤◌, inl, inr, List, [], ◌∷◌, ◌++◌, length, get_or, take, cond, nat_eq, nat_lt, refl, sym, ◌∙◌, ap, arith, All}
+use Rattle.std.proofs.Common.{◌≡◌, ◌≢◌, ℕ, ◌+◌, ◌<◌, ◌≤◌, inl, inr, List, [], ◌∷◌, ◌++◌, length, get_or, take, cond, nat_eq, nat_lt, slice_get, Some, refl, subst, sym, ◌∙◌, ap, arith, All}
 use Rattle.std.proofs.lemmas.Bool.{cases_lt, cond-false, cond-true, lt-ltb, le-ltb}
 use Rattle.std.proofs.lemmas.List.{take_more}
 use Rattle.std.proofs.lemmas.List.Elements.{All-cons, All-nil}
-use Rattle.xm_colours.specs.Family.{Rises}
+use Rattle.xm_colours.specs.Family.{Rises, colours_at}
 use Rattle.xm_model.specs.Membership.{IsIn, times}
-use Rattle.xm_flow.proofs.Rising.{above, rises_on}
+use Rattle.xm_colours.specs.Lemmas.Rising.{above, rises_on}
 
 -- the first of rising colours, up to n
 abbrev pub below : List ℕ → ℕ → List ℕ
@@ -57,3 +57,17 @@ times_more d xs i e within = ap (times d) (take_more xs i e within) ∙ times-pu
 pub all_in : (P : ℕ → Type 0) (xs : List ℕ) → ((d : ℕ) → IsIn xs d → P d) → All P xs
 all_in P [] h = All-nil P
 all_in P (x ∷ xs) h = All-cons P x xs (h x (inl refl)) (all_in P xs (λ d i. h d (inr i)))
+
+-- a colour stands behind all lower ones
+pub below_place : (ds : List ℕ) (n : ℕ) → Rises ds → IsIn ds n → slice_get ds (length (below ds n)) ≡ Some n
+below_place [] n rise inside = absurd inside
+below_place (x ∷ xs) n rise (inl same) =
+    let none : below (x ∷ xs) n ≡ [] = cond-false (nat_lt x n) (x ∷ below xs n) [] (le-ltb x n (omega arith)) in
+    ap (λ (l : List ℕ). slice_get (x ∷ xs) (length l)) none ∙ ap Some same
+below_place (x ∷ xs) n rise (inr inside) =
+    let low = above x xs rise n inside in
+    ap (λ (l : List ℕ). slice_get (x ∷ xs) (length l)) (low_step x xs n low) ∙ below_place xs n (rises_on x xs rise) inside
+
+-- a colour of a set, and the set by another name
+pub inside : (sets others : List (List ℕ)) (c d : ℕ) → sets ≡ others → IsIn (colours_at sets c) d → IsIn (colours_at others c) d
+inside sets others c d is h = subst (λ (s : List (List ℕ)). IsIn (colours_at s c) d) is h

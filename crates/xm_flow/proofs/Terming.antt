@@ -1,7 +1,7 @@
 -- Terms with their columns as numbers, and the rows that they make.
 use Rattle.std.proofs.Common.{◌≡◌, ◌≢◌, ℕ, zero, suc, ◌+◌, ◌<◌, ◌≤◌, inl, inr, List, [], ◌∷◌, ◌++◌, length, map, get_or, take, slice_get, slice_index, Some, Bool, true, false, cond, nat_eq, nat_lt, refl, sym, ◌∙◌, ap, ap₂, subst, arith, append_assoc, ℤ, pos, ◌+ℤ◌, unsigned_abs, All}
 use Rattle.std.proofs.lemmas.Bool.{cond-true, cond-false, eq-eqb, lt-ltb, ne_eqb}
-use Rattle.std.proofs.lemmas.List.{append-nil, take_all, take_more}
+use Rattle.std.proofs.lemmas.List.{append-nil, take_all, take_more, map-append}
 use Rattle.std.proofs.lemmas.List.Elements.{All-cons, All-nil}
 use Rattle.xm_model.specs.Membership.{IsIn, times}
 use Rattle.xm_rows.specs.Row.{SparseRow, coefficient}
@@ -10,7 +10,7 @@ use Rattle.xm_flow.specs.Inner.Building.{AreMade, AreTerms, IsMade, IsRowOf, a_r
 use Rattle.xm_flow.specs.declared.terms.Sign.{Sign}
 use Rattle.xm_flow.specs.declared.terms.Sign.TheVariants.{Plus, Minus}
 use Rattle.xm_flow.specs.FlowRows.{Column, FlowRow, Moves, Term, amount, if_coloured, same_row, taken_to}
-use Rattle.xm_flow.proofs.Columns.{below_length}
+use Rattle.std.proofs.lemmas.Option.{slice_get_within}
 use Rattle.xm_flow.proofs.Numbering.{AreApart, one_test}
 use Rattle.xm_flow.proofs.Rising.{absent}
 
@@ -56,7 +56,7 @@ terms_within listed [] (e ∷ es) h = elim h [ ]
 terms_within listed (t ∷ ts) [] h = elim h [ ]
 terms_within listed [] [] no_terms = All-nil (λ (e : Entry). e.column < length listed)
 terms_within listed (t ∷ ts) (e ∷ es) (a_term value unit at rest) =
-    All-cons (λ (e : Entry). e.column < length listed) e es (below_length listed e.column t.column at) (terms_within listed ts es rest)
+    All-cons (λ (e : Entry). e.column < length listed) e es (slice_get_within listed e.column t.column at) (terms_within listed ts es rest)
 
 terms_coefficient : (listed : List Column) → AreApart listed → (ts : List Term) (es : List Entry) → AreTerms listed ts es → (j : ℕ) (k : Column) → slice_get listed j ≡ Some k →
     coefficient es j ≡ amount ts k
@@ -85,13 +85,9 @@ in_get [] i d within = absurd (omega arith)
 in_get (x ∷ xs) zero d within = inl refl
 in_get (x ∷ xs) (suc i) d within = inr (in_get xs i d (omega arith))
 
-map-push : {X : Type 0} (f : ℕ → X) (xs : List ℕ) (x : ℕ) → map f (xs ++ x ∷ []) ≡ map f xs ++ f x ∷ []
-map-push f [] x = refl
-map-push f (y ∷ ys) x = ap (λ l. f y ∷ l) (map-push f ys x)
-
 pub map_more : {X : Type 0} (f : ℕ → X) (before : List X) (xs : List ℕ) (i d : ℕ) → i < length xs → before ++ map f (take (i + 1) xs) ≡ (before ++ map f (take i xs)) ++ f (get_or xs i d) ∷ []
 map_more f before xs i d within =
-    ap (λ l. before ++ l) (ap (map f) (take_more xs i d within) ∙ map-push f (take i xs) (get_or xs i d)) ∙ sym (append_assoc before (map f (take i xs)) (f (get_or xs i d) ∷ []))
+    ap (λ l. before ++ l) (ap (map f) (take_more xs i d within) ∙ map-append f (take i xs) (get_or xs i d ∷ [])) ∙ sym (append_assoc before (map f (take i xs)) (f (get_or xs i d) ∷ []))
 
 taken-push : (table : List ℕ) (e : ℕ) (xs : List ℕ) (x : ℕ) → taken_to table e (xs ++ x ∷ []) ≡ taken_to table e xs ++ cond (nat_eq (slice_index table x) e) (x ∷ []) []
 taken-push table e [] x = refl
@@ -109,10 +105,6 @@ image_is f left table e x is = ap (λ l. left ++ map f l) (cond-true (nat_eq (sl
 
 pub image_not : {X : Type 0} (f : ℕ → X) (left : List X) (table : List ℕ) (e x : ℕ) → slice_index table x ≢ e → left ++ map f (taken_to table e (x ∷ [])) ≡ left
 image_not f left table e x is = ap (λ l. left ++ map f l) (cond-false (nat_eq (slice_index table x) e) (x ∷ []) [] (ne_eqb (slice_index table x) e is)) ∙ append-nil left
-
-map-append : {X : Type 0} (f : ℕ → X) (xs ys : List ℕ) → map f (xs ++ ys) ≡ map f xs ++ map f ys
-map-append f [] ys = refl
-map-append f (x ∷ xs) ys = ap (λ l. f x ∷ l) (map-append f xs ys)
 
 pub taken_more : {X : Type 0} (f : ℕ → X) (before : List X) (table : List ℕ) (e : ℕ) (xs : List ℕ) (i d : ℕ) → i < length xs →
     before ++ map f (taken_to table e (take (i + 1) xs)) ≡ (before ++ map f (taken_to table e (take i xs))) ++ map f (taken_to table e (get_or xs i d ∷ []))

@@ -1,6 +1,6 @@
 -- The rows of all primitives: in order, and few.
 use Rattle.std.proofs.Common.{◌≡◌, ◌∙◌, ℕ, zero, suc, ◌+◌, ◌*◌, ◌^◌, ◌<◌, ◌≤◌, inl, inr, List, [], ◌∷◌, ◌++◌, length, length-append, map, get_or, take, slice_get, Some, refl, sym, ap, subst, arith, append_assoc, All}
-use Rattle.std.proofs.lemmas.List.{append-nil, length-map, take_more}
+use Rattle.std.proofs.lemmas.List.{append-nil, length-map, length-take-le, map-append, take_more}
 use Rattle.std.proofs.lemmas.List.Elements.{All-cons, All-nil}
 use Rattle.std.proofs.lemmas.Option.{get_or_from_slice_get}
 use Rattle.xm_colours.specs.Family.{Rises, colours_at}
@@ -13,11 +13,11 @@ use Rattle.xm_model.specs.declared.primitive.Primitive.{Primitive}
 use Rattle.xm_rows.specs.Row.{IsRow, SparseRow}
 use Rattle.xm_flow.specs.Inner.Building.{AreMade, IsMade, a_row, no_rows}
 use Rattle.xm_flow.specs.FlowRows.{AreFlowRows, Column, FlowRow, columns, flow_rows, image_row, merge_row, queue_row, rows_at, rows_from, same_row, sides_row}
-use Rattle.xm_flow.proofs.Rising.{above, rises_on}
+use Rattle.xm_colours.specs.Lemmas.Rising.{above, rises_on}
 
 -- ---- one more primitive
 
-pair_number : (colours : ℕ → List ℕ) (p q : ℕ) (m : Component) → length (queue_pairs_at colours p m) ≡ length (queue_pairs_at colours q m)
+pub pair_number : (colours : ℕ → List ℕ) (p q : ℕ) (m : Component) → length (queue_pairs_at colours p m) ≡ length (queue_pairs_at colours q m)
 pair_number colours p q (Source out cs mode) = refl
 pair_number colours p q (Sink input mode) = refl
 pair_number colours p q (Queue input out capacity initial) = length-map (colours out) (λ d. (p, d)) ∙ sym (length-map (colours out) (λ d. (q, d)))
@@ -27,7 +27,7 @@ pair_number colours p q (Join a b out pass) = refl
 pair_number colours p q (Switch input a b to_a) = refl
 pair_number colours p q (Merge a b out) = refl
 
-pairs_push : (colours : ℕ → List ℕ) (p : ℕ) (ms : List Component) (m : Component) → length (queue_pairs colours p (ms ++ m ∷ [])) ≡ length (queue_pairs colours p ms) + length (queue_pairs_at colours 0 m)
+pub pairs_push : (colours : ℕ → List ℕ) (p : ℕ) (ms : List Component) (m : Component) → length (queue_pairs colours p (ms ++ m ∷ [])) ≡ length (queue_pairs colours p ms) + length (queue_pairs_at colours 0 m)
 pairs_push colours p [] m = let len = length-append (queue_pairs_at colours p m) [] in let same = pair_number colours p 0 m in omega (arith, len, same)
 pairs_push colours p (x ∷ xs) m =
     let rest = pairs_push colours (suc p) xs m in
@@ -35,14 +35,10 @@ pairs_push colours p (x ∷ xs) m =
     let two = length-append (queue_pairs_at colours p x) (queue_pairs colours (suc p) xs) in
     omega (arith, rest, one, two)
 
-map-push : (ms : List Primitive) (m : Primitive) → map component_of (ms ++ m ∷ []) ≡ map component_of ms ++ component_of m ∷ []
-map-push [] m = refl
-map-push (x ∷ xs) m = ap (λ l. component_of x ∷ l) (map-push xs m)
-
 pub pairs_more : (colours : ℕ → List ℕ) (ms : List Primitive) (i : ℕ) (d m : Primitive) → i < length ms → m ≡ get_or ms i d →
     length (queue_pairs colours 0 (map component_of (take (i + 1) ms))) ≡ length (queue_pairs colours 0 (map component_of (take i ms))) + length (queue_pairs_at colours 0 (component_of m))
 pairs_more colours ms i d m within is =
-    ap (λ l. length (queue_pairs colours 0 l)) (ap (map component_of) (take_more ms i d within ∙ ap (λ x. take i ms ++ x ∷ []) (sym is)) ∙ map-push (take i ms) m)
+    ap (λ l. length (queue_pairs colours 0 l)) (ap (map component_of) (take_more ms i d within ∙ ap (λ x. take i ms ++ x ∷ []) (sym is)) ∙ map-append component_of (take i ms) (m ∷ []))
     ∙ pairs_push colours 0 (map component_of (take i ms)) (component_of m)
 
 from_push : (colours : ℕ → List ℕ) (p : ℕ) (ms : List Component) (m : Component) → rows_from colours p (ms ++ m ∷ []) ≡ rows_from colours p ms ++ rows_at colours (p + length ms) m
@@ -52,23 +48,13 @@ from_push colours p (x ∷ xs) m =
     ap (λ l. rows_at colours p x ++ l) (from_push colours (suc p) xs m ∙ ap (λ q. rows_from colours (suc p) xs ++ rows_at colours q m) same)
     ∙ sym (append_assoc (rows_at colours p x) (rows_from colours (suc p) xs) (rows_at colours (p + suc (length xs)) m))
 
-length_taken : {X : Type 0} (xs : List X) (i : ℕ) → i < length xs → length (take i xs) ≡ i
-length_taken [] i within = absurd (omega arith)
-length_taken (x ∷ xs) zero within = refl
-length_taken (x ∷ xs) (suc i) within = let rest = length_taken xs i (omega arith) in omega arith
-
 pub rows_more : (colours : ℕ → List ℕ) (ms : List Component) (i : ℕ) (m : Component) → i < length ms → slice_get ms i ≡ Some m →
     rows_from colours 0 (take (i + 1) ms) ≡ rows_from colours 0 (take i ms) ++ rows_at colours i m
 rows_more colours ms i m within at =
     let is : get_or ms i m ≡ m = get_or_from_slice_get ms i m m at in
-    let taken = length_taken ms i within in
+    let taken = length-take-le i ms (omega arith) in
     let number : 0 + length (take i ms) ≡ i = omega (arith, taken) in
     ap (rows_from colours 0) (take_more ms i m within ∙ ap (λ x. take i ms ++ x ∷ []) is) ∙ from_push colours 0 (take i ms) m ∙ ap (λ q. rows_from colours 0 (take i ms) ++ rows_at colours q m) number
-
-pub there : {X : Type 0} (xs : List X) (i : ℕ) → i < length xs → (x : X) × (slice_get xs i ≡ Some x)
-there [] i within = absurd (omega arith)
-there (x ∷ xs) zero within = (x, refl)
-there (x ∷ xs) (suc i) within = there xs i (omega arith)
 
 -- ---- made rows are the flow rows
 

@@ -1,5 +1,7 @@
 -- Flow rows of a net: what moved into a primitive, what moved out of it and what is there add up, colour by colour.
-use Rattle.std.specs.Prelude.{◌≡◌, ℕ, suc, ◌+◌, ◌^◌, ◌<◌, ◌&&◌, Bool, false, List, [], ◌∷◌, ◌++◌, length, map, slice_get, slice_index, Some, cond, nat_eq, nat_lt, ℤ, pos, neg_ℤ, ◌+ℤ◌, ◌*ℤ◌, All}
+use Rattle.std.specs.Prelude.{◌≡◌, ℕ, suc, ◌+◌, ◌^◌, ◌<◌, ◌&&◌, Bool, false, List}
+use Rattle.std.specs.Prelude.{[], ◌∷◌, ◌++◌, length, map, slice_get, slice_index, Some, cond, nat_eq}
+use Rattle.std.specs.Prelude.{nat_lt, ℤ, pos, neg_ℤ, ◌+ℤ◌, ◌*ℤ◌, All}
 use Rattle.xm_colours.specs.Family.{colours_at}
 use Rattle.xm_colours.specs.Pairs.{pairs, queue_pairs}
 use Rattle.xm_design.specs.Designed.{Designed}
@@ -90,7 +92,8 @@ sides_row colours a b = balanced (map (λ d. plus (Moves a d)) (colours a) ++ ma
 
 -- what went came on one of the sides
 abbrev pub merge_row : (ℕ → List ℕ) → ℕ → ℕ → ℕ → ℕ → FlowRow
-merge_row colours a b out d = balanced (plus (Moves out d) ∷ if_coloured colours minus a d ++ if_coloured colours minus b d)
+merge_row colours a b out d =
+    balanced (plus (Moves out d) ∷ if_coloured colours minus a d ++ if_coloured colours minus b d)
 
 -- the flow rows of primitive number p
 abbrev pub rows_at : (ℕ → List ℕ) → ℕ → Component → List FlowRow
@@ -98,9 +101,12 @@ rows_at colours p (Source out cs mode) = []
 rows_at colours p (Sink input mode) = []
 rows_at colours p (Queue input out capacity initial) = map (queue_row colours p input out initial) (colours out)
 rows_at colours p (Function input out table) = map (image_row colours input table out) (colours out)
-rows_at colours p (Fork input a b ta tb) = map (image_row colours input ta a) (colours a) ++ map (image_row colours input tb b) (colours b)
-rows_at colours p (Join a b out pass) = map (same_row colours (at_side pass a b) out) (colours out) ++ sides_row colours a b ∷ []
-rows_at colours p (Switch input a b to_a) = map (same_row colours input a) (colours a) ++ map (same_row colours input b) (colours b)
+rows_at colours p (Fork input a b ta tb) =
+    map (image_row colours input ta a) (colours a) ++ map (image_row colours input tb b) (colours b)
+rows_at colours p (Join a b out pass) =
+    map (same_row colours (at_side pass a b) out) (colours out) ++ sides_row colours a b ∷ []
+rows_at colours p (Switch input a b to_a) =
+    map (same_row colours input a) (colours a) ++ map (same_row colours input b) (colours b)
 rows_at colours p (Merge a b out) = map (merge_row colours a b out) (colours out)
 
 -- the rows of primitives that are numbered from p on
@@ -120,7 +126,8 @@ pub record IsNumbered (listed : List Column) (row : FlowRow) (sparse : SparseRow
 -- the sparse rows are the flow rows of the design, in order
 pub record AreFlowRows (it : Designed) (rows : List SparseRow) : Type 0 where
   pub whole : length rows ≡ length (flow_rows it)
-  pub at : (i : ℕ) (row : FlowRow) (sparse : SparseRow) → slice_get (flow_rows it) i ≡ Some row → slice_get rows i ≡ Some sparse → IsNumbered (columns it) row sparse
+  pub at : (i : ℕ) (row : FlowRow) (sparse : SparseRow) → slice_get (flow_rows it) i ≡ Some row
+      → slice_get rows i ≡ Some sparse → IsNumbered (columns it) row sparse
 
 -- what a list of flow rows is to contracts: the rows, and how many columns of moves and how many of counts they have
 pub record Flow : Type 0 where

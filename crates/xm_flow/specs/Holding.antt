@@ -57,6 +57,8 @@ FlowHolds =
 -- and so does each row that follows from them
 abbrev pub LemmasHold : Type 0
 LemmasHold =
-    (it : Designed) (rows : List SparseRow) (lemma : Lemma) (cycles : ℕ) (w : ℕ → ℕ → Choice) (s : ℕ → ℕ → Content) (φ : ℕ → Signals) →
-    IsDesigned it → AreFlowRows it rows → IsValid (pair_count it) (queue_pair_count it) rows lemma → TapeFits it.net cycles w → IsRun it.net cycles w s φ →
-    (t : ℕ) → t ≤ cycles → Meets lemma.row (pos 1) (point (count_columns it) (column_value (s t) φ t))
+    (it : Designed) (rows : List SparseRow) (lemma : Lemma) (cycles : ℕ) (w : ℕ → ℕ → Choice)
+    (s : ℕ → ℕ → Content) (φ : ℕ → Signals) →
+    IsDesigned it → AreFlowRows it rows → IsValid (pair_count it) (queue_pair_count it) rows lemma →
+    TapeFits it.net cycles w → IsRun it.net cycles w s φ →
+    (t : ℕ) → t ≤ cycles → Meets lemma.row (pos 1) (point (count_columns it) (count_value (s t)))

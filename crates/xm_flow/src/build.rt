@@ -36,7 +36,7 @@ impl From<OutOfMemory> for FlowFault {
 }
 
 /// How many queue pairs a primitive has.
-fn count_at(design: &Design, prim: &Prim) -> u32
+pub(crate) fn pairs_at(design: &Design, prim: &Prim) -> u32
     ensures number { result ≡ length (queue_pairs_at (colours_at design.now.colours) 0 (component_of prim.now)) }
     ensures few { result ≤ 64 }
 {
@@ -54,7 +54,7 @@ fn counts_of(design: &Design) -> u32
     let prims = design.net().prims().as_slice();
     let mut counts = 0;
     for p in 0..prims.len() {
-        counts += count_at(design, &prims[p]);
+        counts += pairs_at(design, &prims[p]);
     }
     counts
 }

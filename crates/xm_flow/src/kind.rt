@@ -4,7 +4,8 @@ ghost use Rattle.std.specs.Prelude.{◌≡◌, ◌++◌, ℕ, ◌<◌, ◌≤◌
 ghost use Rattle.xm_colours.specs.Family.{colours_at};
 ghost use Rattle.xm_design.specs.Numbers.{IsQueuePair};
 ghost use Rattle.xm_flow.specs.Inner.Building.{AreMade, IsMade, IsReady};
-ghost use Rattle.xm_flow.specs.FlowRows.{FlowRow, columns, image_row as image, merge_row as merged, queue_row as queued, rows_at as rows_of, same_row as same, sides_row as sides};
+ghost use Rattle.xm_flow.specs.FlowRows.{FlowRow, columns, image_row as image, merge_row as merged};
+ghost use Rattle.xm_flow.specs.FlowRows.{queue_row as queued, rows_at as rows_of, same_row as same, sides_row as sides};
 ghost use Rattle.xm_model.specs.Component.{Component};
 ghost use Rattle.xm_model.specs.Net.{HasPrim};
 ghost use Rattle.xm_model.specs.Membership.{IsIn};
@@ -35,7 +36,8 @@ fn queue_row(
     requires out { out < design.now.net.channels }
     requires colour { IsIn (colours_at design.now.colours out) d }
     requires pair { IsQueuePair design.now q d }
-    ensures { IfOk result (IsMade (columns design.now) (queued (colours_at design.now.colours) q input out initial.now d)) }
+    ensures { IfOk result (IsMade (columns design.now)
+        (queued (colours_at design.now.colours) q input out initial.now d)) }
 {
     let mut terms = Vec::new(alloc);
     push_if(&mut terms, places, design, input, d, Sign::Plus)?;
@@ -162,7 +164,10 @@ fn queue_rows(
     requires input { input < design.now.net.channels }
     requires out { out < design.now.net.channels }
     requires pair { (d : ℕ) → IsIn (colours_at design.now.colours out) d → IsQueuePair design.now q d }
-    ensures { (flow : Items FlowRow) → AreMade (columns design.now) flow rows.old.items → OnOk result (AreMade (columns design.now) (flow ++ map (queued (colours_at design.now.colours) q input out packets.now) (colours_at design.now.colours out)) rows.new.items) }
+    ensures { (flow : Items FlowRow) → AreMade (columns design.now) flow rows.old.items
+        → OnOk result (AreMade (columns design.now)
+        (flow ++ map (queued (colours_at design.now.colours) q input out packets.now)
+        (colours_at design.now.colours out)) rows.new.items) }
 {
     let set = set_of(alloc, design, out)?;
     let colours = set.as_slice();
@@ -187,7 +192,10 @@ fn image_rows(
     requires input { input < design.now.net.channels }
     requires out { out < design.now.net.channels }
     requires covered { design.now.net.colours ≤ length table.now }
-    ensures { (flow : Items FlowRow) → AreMade (columns design.now) flow rows.old.items → OnOk result (AreMade (columns design.now) (flow ++ map (image (colours_at design.now.colours) input table.now out) (colours_at design.now.colours out)) rows.new.items) }
+    ensures { (flow : Items FlowRow) → AreMade (columns design.now) flow rows.old.items
+        → OnOk result (AreMade (columns design.now)
+        (flow ++ map (image (colours_at design.now.colours) input table.now out)
+        (colours_at design.now.colours out)) rows.new.items) }
 {
     let set = set_of(alloc, design, out)?;
     let colours = set.as_slice();
@@ -210,7 +218,10 @@ fn same_rows(
     requires ready { IsReady design.now places.now.below.items places.now.moves }
     requires input { input < design.now.net.channels }
     requires out { out < design.now.net.channels }
-    ensures { (flow : Items FlowRow) → AreMade (columns design.now) flow rows.old.items → OnOk result (AreMade (columns design.now) (flow ++ map (same (colours_at design.now.colours) input out) (colours_at design.now.colours out)) rows.new.items) }
+    ensures { (flow : Items FlowRow) → AreMade (columns design.now) flow rows.old.items
+        → OnOk result (AreMade (columns design.now)
+        (flow ++ map (same (colours_at design.now.colours) input out)
+        (colours_at design.now.colours out)) rows.new.items) }
 {
     let set = set_of(alloc, design, out)?;
     let colours = set.as_slice();
@@ -235,7 +246,10 @@ fn merge_rows(
     requires a { a < design.now.net.channels }
     requires b { b < design.now.net.channels }
     requires out { out < design.now.net.channels }
-    ensures { (flow : Items FlowRow) → AreMade (columns design.now) flow rows.old.items → OnOk result (AreMade (columns design.now) (flow ++ map (merged (colours_at design.now.colours) a b out) (colours_at design.now.colours out)) rows.new.items) }
+    ensures { (flow : Items FlowRow) → AreMade (columns design.now) flow rows.old.items
+        → OnOk result (AreMade (columns design.now)
+        (flow ++ map (merged (colours_at design.now.colours) a b out)
+        (colours_at design.now.colours out)) rows.new.items) }
 {
     let set = set_of(alloc, design, out)?;
     let colours = set.as_slice();
@@ -271,7 +285,10 @@ fn join_rows(
     requires a { a < design.now.net.channels }
     requires b { b < design.now.net.channels }
     requires out { out < design.now.net.channels }
-    ensures { (flow : Items FlowRow) → AreMade (columns design.now) flow rows.old.items → OnOk result (AreMade (columns design.now) (flow ++ (map (same (colours_at design.now.colours) (at_side pass a b) out) (colours_at design.now.colours out) ++ sides (colours_at design.now.colours) a b ∷ [])) rows.new.items) }
+    ensures { (flow : Items FlowRow) → AreMade (columns design.now) flow rows.old.items
+        → OnOk result (AreMade (columns design.now)
+        (flow ++ (map (same (colours_at design.now.colours) (at_side pass a b) out) (colours_at design.now.colours out)
+        ++ sides (colours_at design.now.colours) a b ∷ [])) rows.new.items) }
 {
     same_rows(alloc, rows, places, design, passing(a, b, pass), out)?;
     let row = sides_row(alloc, places, design, a, b)?;
@@ -289,7 +306,10 @@ pub fn rows_at(
 ) -> Result<(), OutOfMemory>
     requires ready { IsReady design.now places.now.below.items places.now.moves }
     requires within { p < length design.now.net.prims }
-    ensures { (m : Component) → HasPrim design.now.net p m → (flow : Items FlowRow) → AreMade (columns design.now) flow rows.old.items → OnOk result (AreMade (columns design.now) (flow ++ rows_of (colours_at design.now.colours) p m) rows.new.items) }
+    ensures { (m : Component) → HasPrim design.now.net p m →
+        (flow : Items FlowRow) → AreMade (columns design.now) flow rows.old.items
+        → OnOk result (AreMade (columns design.now)
+        (flow ++ rows_of (colours_at design.now.colours) p m) rows.new.items) }
 {
     match design.net().prim(p) {
         Prim::Source { .. } | Prim::Sink { .. } => Ok(()),

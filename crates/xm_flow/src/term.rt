@@ -1,6 +1,7 @@
 //! Terms added to a row, one after another.
 
-ghost use Rattle.std.specs.Prelude.{◌≡◌, ◌<◌, ◌≤◌, ◌^◌, All, IfOk, OnOk, ℤ, pos, ◌+ℤ◌, ◌≢◌, unsigned_abs, length, take, drop, slice_set, remove};
+ghost use Rattle.std.specs.Prelude.{◌≡◌, ◌<◌, ◌≤◌, ◌^◌, All, IfOk, OnOk, ℤ, pos};
+ghost use Rattle.std.specs.Prelude.{◌+ℤ◌, ◌≢◌, unsigned_abs, length, take, drop, slice_set, remove};
 ghost use Rattle.xm_flow.specs.Inner.Building.{IsRowOf, Put};
 ghost use Rattle.xm_rows.specs.Row.{Fits128, IsRising};
 
@@ -51,7 +52,8 @@ fn insert_at(
 /// The entry with its value, which is not 0, in place of the one at `p`, or none in its place.
 fn replace_at(entries: &mut Vec<Entry>, p: usize, column: u32, sum: i128)
     requires { p < length entries.old.items }
-    ensures some { sum ≢ pos 0 → entries.new.items ≡ slice_set entries.old.items p (record { column = column; value = sum }) }
+    ensures some { sum ≢ pos 0
+        → entries.new.items ≡ slice_set entries.old.items p (record { column = column; value = sum }) }
     ensures none { sum ≡ pos 0 → entries.new.items ≡ remove entries.old.items p }
 {
     if sum == 0 {

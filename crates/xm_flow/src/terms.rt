@@ -42,7 +42,8 @@ pub fn push_move(
     requires ready { IsReady design.now places.now.below.items places.now.moves }
     requires channel { c < design.now.net.channels }
     requires colour { IsIn (colours_at design.now.colours c) d }
-    ensures { (left : Items Term) → AreTerms (columns design.now) left terms.old.items → OnOk result (AreTerms (columns design.now) (left ++ term (unit_of sign) (Moves c d) ∷ []) terms.new.items) }
+    ensures { (left : Items Term) → AreTerms (columns design.now) left terms.old.items
+        → OnOk result (AreTerms (columns design.now) (left ++ term (unit_of sign) (Moves c d) ∷ []) terms.new.items) }
 {
     let column = move_at(places, design, c, d);
     terms.push(entry(column, sign))?;
@@ -60,7 +61,9 @@ pub fn push_if(
 ) -> Result<(), OutOfMemory>
     requires ready { IsReady design.now places.now.below.items places.now.moves }
     requires channel { c < design.now.net.channels }
-    ensures { (left : Items Term) → AreTerms (columns design.now) left terms.old.items → OnOk result (AreTerms (columns design.now) (left ++ if_coloured (colours_at design.now.colours) (term (unit_of sign)) c d) terms.new.items) }
+    ensures { (left : Items Term) → AreTerms (columns design.now) left terms.old.items
+        → OnOk result (AreTerms (columns design.now)
+        (left ++ if_coloured (colours_at design.now.colours) (term (unit_of sign)) c d) terms.new.items) }
 {
     if design.colours().has(c, d) {
         return push_move(terms, places, design, c, d, sign);
@@ -79,7 +82,8 @@ pub fn push_count(
 ) -> Result<(), OutOfMemory>
     requires ready { IsReady design.now places.now.below.items places.now.moves }
     requires pair { IsQueuePair design.now q d }
-    ensures { (left : Items Term) → AreTerms (columns design.now) left terms.old.items → OnOk result (AreTerms (columns design.now) (left ++ term (unit_of sign) (Count q d) ∷ []) terms.new.items) }
+    ensures { (left : Items Term) → AreTerms (columns design.now) left terms.old.items
+        → OnOk result (AreTerms (columns design.now) (left ++ term (unit_of sign) (Count q d) ∷ []) terms.new.items) }
 {
     let column = count_at(places, design, q, d);
     terms.push(entry(column, sign))?;
@@ -98,7 +102,9 @@ pub fn push_moves(
     requires ready { IsReady design.now places.now.below.items places.now.moves }
     requires channel { c < design.now.net.channels }
     requires set { set.now ≡ colours_at design.now.colours c }
-    ensures { (left : Items Term) → AreTerms (columns design.now) left terms.old.items → OnOk result (AreTerms (columns design.now) (left ++ map (λ d. term (unit_of sign) (Moves c d)) set.now) terms.new.items) }
+    ensures { (left : Items Term) → AreTerms (columns design.now) left terms.old.items
+        → OnOk result (AreTerms (columns design.now)
+        (left ++ map (λ d. term (unit_of sign) (Moves c d)) set.now) terms.new.items) }
 {
     for i in 0..set.len() {
         push_move(terms, places, design, c, set[i], sign)?;
@@ -120,7 +126,9 @@ fn push_image(
     requires channel { c < design.now.net.channels }
     requires colour { IsIn (colours_at design.now.colours c) d }
     requires covered { d < length table.now }
-    ensures { (left : Items Term) → AreTerms (columns design.now) left terms.old.items → OnOk result (AreTerms (columns design.now) (left ++ map (λ x. minus (Moves c x)) (taken_to table.now e (d ∷ []))) terms.new.items) }
+    ensures { (left : Items Term) → AreTerms (columns design.now) left terms.old.items
+        → OnOk result (AreTerms (columns design.now)
+        (left ++ map (λ x. minus (Moves c x)) (taken_to table.now e (d ∷ []))) terms.new.items) }
 {
     if table[d as usize] == e {
         return push_move(terms, places, design, c, d, Sign::Minus);
@@ -142,7 +150,9 @@ pub fn push_taken(
     requires channel { c < design.now.net.channels }
     requires set { set.now ≡ colours_at design.now.colours c }
     requires covered { All (λ d. d < length table.now) set.now }
-    ensures { (left : Items Term) → AreTerms (columns design.now) left terms.old.items → OnOk result (AreTerms (columns design.now) (left ++ map (λ d. minus (Moves c d)) (taken_to table.now e set.now)) terms.new.items) }
+    ensures { (left : Items Term) → AreTerms (columns design.now) left terms.old.items
+        → OnOk result (AreTerms (columns design.now)
+        (left ++ map (λ d. minus (Moves c d)) (taken_to table.now e set.now)) terms.new.items) }
 {
     for i in 0..set.len() {
         push_image(terms, places, design, c, set[i], table, e)?;

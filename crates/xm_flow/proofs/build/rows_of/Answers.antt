@@ -3,7 +3,8 @@ use Rattle.std.proofs.lemmas.List.{take_all}
 use Rattle.xm_colours.specs.Family.{colours_at}
 use Rattle.xm_flow.specs.Inner.Building.{AreMade, no_rows}
 use Rattle.xm_flow.specs.FlowRows.{FlowRow, columns, rows_from}
-use Rattle.xm_flow.proofs.Wholes.{rows_more, same_length, there}
+use Rattle.xm_flow.specs.Lemmas.Listing.{there}
+use Rattle.xm_flow.proofs.Wholes.{rows_more, same_length}
 use Rattle.xm_flow.proofs.build.rows_of.Goals as goal
 
 pub loop-p-preserved : goal.loop-p-preserved

@@ -1,12 +1,9 @@
-use Rattle.std.proofs.Common.{◌≡◌, ◌∙◌, ◌<◌, ℕ, List, ap, sym, subst, true, false, arith, All}
+use Rattle.std.proofs.Common.{◌≡◌, ◌∙◌, ◌<◌, ℕ, ap, sym, subst, true, false, arith, All}
 use Rattle.xm_colours.specs.Family.{colours_at}
 use Rattle.xm_model.specs.Membership.{IsIn}
-use Rattle.xm_flow.proofs.Setting.{all_in, below, below_all, below_more, below_none, below_same}
+use Rattle.xm_flow.proofs.Setting.{inside, all_in, below, below_all, below_more, below_none, below_same}
 use Rattle.xm_flow.proofs.set.set_of.Goals.{then-has+in_ok-push, else-has}
 use Rattle.xm_flow.proofs.set.set_of.Goals as goal
-
-inside : (sets others : List (List ℕ)) (c d : ℕ) → sets ≡ others → IsIn (colours_at sets c) d → IsIn (colours_at others c) d
-inside sets others c d is h = subst (λ (s : List (List ℕ)). IsIn (colours_at s c) d) is h
 
 pub loop-d-init : goal.loop-d-init
 loop-d-init c = c.new-set.ensures.items ∙ sym (below_none (colours_at c.args.design.now.colours c.args.c))

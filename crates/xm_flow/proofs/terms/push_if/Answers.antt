@@ -1,13 +1,11 @@
-use Rattle.std.proofs.Common.{◌≡◌, ℕ, subst, sym, List, true, false}
+use Rattle.std.proofs.Common.{◌≡◌, sym, true, false}
 use Rattle.std.proofs.lemmas.List.{append-nil}
 use Rattle.xm_colours.specs.Family.{colours_at}
 use Rattle.xm_model.specs.Membership.{IsIn}
 use Rattle.xm_flow.specs.Inner.Building.{term, unit_of}
+use Rattle.xm_flow.proofs.Setting.{inside}
 use Rattle.xm_flow.proofs.Terming.{if_absent, if_there}
 use Rattle.xm_flow.proofs.terms.push_if.Goals as goal
-
-inside : (sets others : List (List ℕ)) (c d : ℕ) → sets ≡ others → IsIn (colours_at sets c) d → IsIn (colours_at others c) d
-inside sets others c d is h = subst (λ (s : List (List ℕ)). IsIn (colours_at s c) d) is h
 
 pub push_move-requires-clause-colour : goal.push_move-requires-clause-colour
 push_move-requires-clause-colour c = inside _ _ _ _ c.colours.ensures.value (c.has.ensures.0 c.if-has.true)

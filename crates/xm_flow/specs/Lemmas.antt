@@ -1,0 +1,3 @@
+-- Lemmas that proofs of this crate and of the crates above cite.
+pub mod Listing
+pub mod Within
