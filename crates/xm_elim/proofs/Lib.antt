@@ -1,0 +1,17 @@
+mod Consistent
+mod Combining
+mod Passing
+mod Solving
+mod Shaping
+mod Beginning
+mod Spanning
+mod Exclusive
+mod Following
+mod Reducing
+mod Bases
+mod Looking
+mod Placing
+mod Replacing
+mod Stepping
+mod Parting
+mod Gathering

@@ -1,0 +1,3 @@
+pub mod Basis
+pub mod Elimination
+pub mod Inner
