@@ -1,0 +1,73 @@
+-- Literals that never hold together.
+use Rattle.std.specs.Prelude.{◌≡◌, ℕ, List, [], ◌∷◌, Option, Some, None, Bool, true, false, ◌&&◌, not, nat_eq, nat_lt, slice_get}
+use Rattle.xm_colours.specs.Family.{colours_at}
+use Rattle.xm_design.specs.Designed.{Designed}
+use Rattle.xm_lits.specs.Inference.{has_colour, idle_all}
+use Rattle.xm_lits.specs.declared.literal.Lit.{Lit}
+use Rattle.xm_lits.specs.declared.literal.Lit.TheVariants.{Stuck, Dead, Idle, Full, Has, Lacks}
+use Rattle.xm_model.specs.Component.{Component, Fork, Function, Join, Merge, Queue, Sink, Source, Switch}
+use Rattle.xm_model.specs.Net.{Network, initiators}
+use Rattle.xm_model.specs.declared.primitive.SourceMode.{SourceMode}
+use Rattle.xm_model.specs.declared.primitive.SourceMode.TheVariants as source_mode
+
+-- a channel is dead with a colour and idle of it, or dead with two colours
+abbrev pub opposed : Lit → Lit → Bool
+opposed (Dead c d) (Idle e f) = nat_eq c e && nat_eq d f
+opposed (Idle c d) (Dead e f) = nat_eq c e && nat_eq d f
+opposed (Dead c d) (Dead e f) = nat_eq c e && not (nat_eq d f)
+opposed _ _ = false
+
+-- it is a queue whose output lacks the colour
+abbrev pub lacks_colour : (ℕ → List ℕ) → ℕ → Option Component → Bool
+lacks_colour colours d None = false
+lacks_colour colours d (Some (Source out cs mode)) = false
+lacks_colour colours d (Some (Sink input mode)) = false
+lacks_colour colours d (Some (Queue input out capacity initial)) = not (has_colour (colours out) d)
+lacks_colour colours d (Some (Function input out table)) = false
+lacks_colour colours d (Some (Fork input a b table_a table_b)) = false
+lacks_colour colours d (Some (Join a b out pass)) = false
+lacks_colour colours d (Some (Switch input a b to_a)) = false
+lacks_colour colours d (Some (Merge a b out)) = false
+
+-- a channel is dead with a colour outside its set, or a queue has a packet of one outside that of its output
+abbrev pub outside : Designed → Lit → Bool
+outside it (Stuck c) = false
+outside it (Dead c d) = nat_lt c it.net.channels && not (has_colour (colours_at it.colours c) d)
+outside it (Idle c d) = false
+outside it (Full q) = false
+outside it (Has q d) = lacks_colour (colours_at it.colours) d (slice_get it.net.prims q)
+outside it (Lacks q d) = false
+
+-- the mode of a source that offers again and again
+abbrev pub offers_again : SourceMode → Bool
+offers_again source_mode.Keep = false
+offers_again source_mode.Eager = true
+offers_again source_mode.Free = false
+offers_again source_mode.Fair = true
+
+abbrev pub is_offering : Option Component → Bool
+is_offering None = false
+is_offering (Some (Source out cs mode)) = offers_again mode
+is_offering (Some (Sink input mode)) = false
+is_offering (Some (Queue input out capacity initial)) = false
+is_offering (Some (Function input out table)) = false
+is_offering (Some (Fork input a b table_a table_b)) = false
+is_offering (Some (Join a b out pass)) = false
+is_offering (Some (Switch input a b to_a)) = false
+is_offering (Some (Merge a b out)) = false
+
+-- the one primitive that is listed is an eager or fair source
+abbrev pub one_offers : Network → List ℕ → Bool
+one_offers net [] = false
+one_offers net (p ∷ []) = is_offering (slice_get net.prims p)
+one_offers net (p ∷ q ∷ ps) = false
+
+-- an eager or fair source offers on the channel
+abbrev pub offered : Designed → ℕ → Bool
+offered it c = one_offers it.net (initiators it.net.prims c)
+
+-- a clash: two literals that are opposed, one that is outside, or idleness of all colours where such a source offers
+pub data IsClash (it : Designed) : List Lit → Type 0 where
+  two_opposed : (l m : Lit) → opposed l m ≡ true → IsClash it (l ∷ m ∷ [])
+  one_outside : (l : Lit) → outside it l ≡ true → IsClash it (l ∷ [])
+  all_idle : (c : ℕ) → offered it c ≡ true → IsClash it (idle_all (colours_at it.colours) c)

@@ -1,0 +1,104 @@
+//! Lists of colours, in colour order.
+
+ghost use Rattle.std.specs.Prelude.{◌≡◌, ◌<◌, ℕ, ◌++◌, [], ◌∷◌, All, ◌↔◌, cond, length, IfOk, IsTrue, OnOk};
+ghost use Rattle.xm_colours.specs.Family.{Rises, colours_at};
+ghost use Rattle.xm_lits.specs.Inference.{taken_to, with_colour, without};
+ghost use Rattle.xm_model.specs.Membership.{IsIn};
+
+use std::alloc::Global;
+use xm_colours::Colours;
+use xm_design::Design;
+use xm_model::{List, OutOfMemory};
+
+/// Appends the colour, where the test holds.
+fn push_if(ds: &mut List<u8>, test: bool, d: u8) -> Result<(), OutOfMemory>
+    ensures { OnOk result (ds.new.items ≡ ds.old.items ++ cond test (d ∷ []) []) }
+{
+    if !test {
+        return Ok(());
+    }
+    ds.push(d)
+}
+
+/// The colours of channel `c`.
+pub fn colours_of(alloc: Global, colours: &Colours, c: u32) -> Result<List<u8>, OutOfMemory>
+    requires rise { Rises (colours_at colours.now c) }
+    requires below { (d : ℕ) → IsIn (colours_at colours.now c) d → d < 64 }
+    ensures { IfOk result (λ ds. ds.items ≡ colours_at colours.now c) }
+{
+    let mut ds = List::new(alloc);
+    for d in 0..64 {
+        push_if(&mut ds, colours.has(c, d), d)?;
+    }
+    Ok(ds)
+}
+
+/// Whether `d` is one of the colours of channel `c`, or colour `with`.
+fn is_with(colours: &Colours, c: u32, with: u8, d: u8) -> bool
+    ensures { IsTrue result ↔ IsIn (with_colour with (colours_at colours.now c)) d }
+{
+    d == with || colours.has(c, d)
+}
+
+/// The colours of channel `c`, and colour `with`.
+pub fn colours_with(
+    alloc: Global,
+    colours: &Colours,
+    c: u32,
+    with: u8,
+) -> Result<List<u8>, OutOfMemory>
+    requires rise { Rises (colours_at colours.now c) }
+    requires below { (d : ℕ) → IsIn (colours_at colours.now c) d → d < 64 }
+    ensures { IfOk result (λ ds. ds.items ≡ with_colour with (colours_at colours.now c)) }
+{
+    let mut ds = List::new(alloc);
+    for d in 0..256u32 {
+        push_if(&mut ds, is_with(colours, c, with, d as u8), d as u8)?;
+    }
+    Ok(ds)
+}
+
+/// The colours but `d`.
+pub fn all_but(alloc: Global, colours: &[u8], d: u8) -> Result<List<u8>, OutOfMemory>
+    ensures { IfOk result (λ ds. ds.items ≡ without d colours.now) }
+{
+    let mut ds = List::new(alloc);
+    for x in colours {
+        push_if(&mut ds, *x != d, *x)?;
+    }
+    Ok(ds)
+}
+
+/// The colours that the table takes to `d`.
+pub fn all_taken(
+    alloc: Global,
+    table: &[u8],
+    colours: &[u8],
+    d: u8,
+) -> Result<List<u8>, OutOfMemory>
+    requires { All (λ x. x < length table.now) colours.now }
+    ensures { IfOk result (λ ds. ds.items ≡ taken_to table.now d colours.now) }
+{
+    let mut ds = List::new(alloc);
+    for x in colours {
+        push_if(&mut ds, table[*x as usize] == d, *x)?;
+    }
+    Ok(ds)
+}
+
+/// The colours of channel `c` of a design.
+pub fn set_of(alloc: Global, design: &Design, c: u32) -> Result<List<u8>, OutOfMemory>
+    ensures value { IfOk result (λ ds. ds.items ≡ colours_at design.now.colours c) }
+    ensures below { IfOk result (λ ds. All (λ d. d < design.now.net.colours) ds.items) }
+{
+    let _channels = design.net().channels();
+    colours_of(alloc, design.colours(), c)
+}
+
+/// The colours of channel `c` of a design, and colour `with`.
+pub fn set_with(alloc: Global, design: &Design, c: u32, with: u8) -> Result<List<u8>, OutOfMemory>
+    ensures { IfOk result (λ ds. ds.items ≡ with_colour with (colours_at design.now.colours c)) }
+{
+    let _channels = design.net().channels();
+    colours_with(alloc, design.colours(), c, with)
+}
