@@ -1,0 +1,23 @@
+-- What checking a proof is worth.
+use Rattle.std.specs.Prelude.{◌≡◌, ℕ, ◌<◌, List}
+use Rattle.xm_check.specs.Break.{IsVerdict}
+use Rattle.xm_design.specs.Designed.{Designed}
+use Rattle.xm_flow.specs.FlowRows.{AreFlowRows}
+use Rattle.xm_lits.specs.Laws.{IsFairRun}
+use Rattle.xm_lits.specs.Repeating.{IsJammed, Repetition}
+use Rattle.xm_proof.specs.Argument.{Argument}
+use Rattle.xm_proof.specs.Valid.{IsProof}
+use Rattle.xm_proof.specs.declared.verdict.Verdict.{Verdict}
+use Rattle.xm_rows.specs.Row.{SparseRow}
+
+-- a proof has one verdict: so Yes is said exactly of what is valid
+abbrev pub OneVerdict : Type 0
+OneVerdict =
+    (it : Designed) (rows : List SparseRow) (p : Argument) (v w : Verdict) →
+    IsVerdict it rows p v → IsVerdict it rows p w → v ≡ w
+
+-- where a proof is valid, no channel jams on a fair repeating run
+abbrev pub ProofsHold : Type 0
+ProofsHold =
+    (it : Designed) (rows : List SparseRow) (p : Argument) (r : Repetition) → IsFairRun it r → AreFlowRows it rows →
+    IsProof it rows p → (c : ℕ) → c < it.net.channels → IsJammed r c → ⊥
