@@ -5,7 +5,7 @@ use Rattle.std.proofs.lemmas.Int.{ints}
 use Rattle.std.proofs.lemmas.Bool.{and_parts, and_from, cases_lt, eq-eqb, eqb-true}
 use Rattle.xm_check.specs.Break.{IsFirstLemmaBreak, IsVerdict, LemmaBreaks, differs, goals_break, leaves, lemma_breaks, not_positive, out_of_range, valid, at_place, clash_test, goals_and_trees_test, goals_test, item_test, items_test, some_on_path, step_test, steps_test, sum_test, trees_test}
 use Rattle.xm_check.specs.Laws.{OneVerdict}
-use Rattle.xm_check.specs.Trees.{AreTrees, EachOneTree, kids_of}
+use Rattle.xm_check.specs.Lemmas.Trees.{AreTrees, EachOneTree, kids_of}
 use Rattle.xm_colours.specs.Family.{colours_at}
 use Rattle.xm_design.specs.Designed.{Designed}
 use Rattle.xm_flow.specs.ValidLemma.{Lemma}

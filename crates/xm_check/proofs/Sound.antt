@@ -29,13 +29,13 @@ use Rattle.xm_model.specs.Membership.{IsIn, times}
 use Rattle.xm_model.specs.Run.{count}
 use Rattle.xm_model.specs.Signals.{packets_in}
 use Rattle.xm_proof.specs.Argument.{Argument, literals}
-use Rattle.xm_proof.specs.Integers.{negated, one_times, scaled}
-use Rattle.xm_proof.specs.Refuting.{IsReading, goal_fails, on_path_holds}
+use Rattle.xm_proof.specs.Lemmas.Integers.{negated, one_times, scaled}
+use Rattle.xm_proof.specs.Lemmas.Refuting.{IsReading, goal_fails, on_path_holds}
 use Rattle.xm_proof.specs.Sums.{is_natural}
 use Rattle.xm_lits.specs.Paths.{on_path}
 use Rattle.xm_proof.specs.Tests.{capacity_row, count_row, entries_where, is_queue, literal_row, low_row, move_columns, of_pair, of_queue, only_where, packets_row, queue_columns}
 use Rattle.xm_proof.specs.Valid.{AreLemmas, IsLemma, IsProof, all_goals, has_sign, item_row, lemma_row, multiplier, of_a_queue}
-use Rattle.xm_proof.specs.Weighing.{EndsAt, no_sum}
+use Rattle.xm_proof.specs.Lemmas.Weighing.{EndsAt, no_sum}
 use Rattle.xm_proof.specs.declared.proof.Item.{Item}
 use Rattle.xm_proof.specs.declared.proof.Item.TheVariants as item
 use Rattle.xm_rows.specs.Row.{SparseRow, left_side}

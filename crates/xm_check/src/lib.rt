@@ -1,6 +1,11 @@
 //! Checks proofs that no channel jams: the first break of a proof, and what a valid one is worth.
 #![tactic(auto)]
 
+mod items;
 mod laws;
+mod steps;
+mod stop;
+mod sums;
+mod trees;
 
 pub use laws::{one_verdict, proofs_hold};

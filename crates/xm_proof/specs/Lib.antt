@@ -1,7 +1,5 @@
 pub mod Argument
-pub mod Integers
-pub mod Refuting
+pub mod Lemmas
 pub mod Sums
 pub mod Tests
 pub mod Valid
-pub mod Weighing

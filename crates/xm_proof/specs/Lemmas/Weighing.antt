@@ -10,7 +10,7 @@ use Rattle.std.proofs.Math.IntN.{zero-*ℤ, *ℤ-zero}
 use Rattle.xm_design.specs.Designed.{Designed}
 use Rattle.xm_lits.specs.declared.literal.Lit.{Lit}
 use Rattle.xm_flow.specs.ValidLemma.{Lemma}
-use Rattle.xm_proof.specs.Integers.{assoc, distrib, distrib_right}
+use Rattle.xm_proof.specs.Lemmas.Integers.{assoc, distrib, distrib_right}
 use Rattle.xm_proof.specs.Sums.{Sums, add_entries, add_row, all_zero, fits128, no_sums, plus_product, put, with_constant}
 use Rattle.xm_proof.specs.Tests.{queue_columns}
 use Rattle.xm_proof.specs.Valid.{AddUp, Closes, has_sign, item_row, multiplier}

@@ -1,0 +1,5 @@
+-- What private clauses cite, and no public one.
+pub mod Gives
+pub mod Queues
+pub mod Touched
+pub mod Walking

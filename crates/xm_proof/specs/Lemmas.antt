@@ -1,0 +1,4 @@
+-- Lemmas that proofs cite.
+pub mod Integers
+pub mod Refuting
+pub mod Weighing
