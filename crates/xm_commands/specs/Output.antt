@@ -37,8 +37,8 @@ pub record AreInvariants (design : Designed) (lemmas : List Lemma) : Type 0 wher
   pub left : Eliminates (pair_count design) (queue_pair_count design) rows.rows lemmas
   pub basis : IsReducedBasis (pair_count design) (queue_pair_count design) rows.rows lemmas
 
--- The output of a command for the bytes of a document: of `check` the sizes and colours of its design, of `run` the text
--- of the run of its tape, and of `inv` that of its invariants.
+-- The output of a command for the bytes of a document: of `check` the sizes and colours of its design, of `run` the
+-- text of the run of its tape, and of `inv` that of its invariants.
 pub data IsOutput (bytes : List ℕ) : Command → List ℕ → Type 0 where
   of_check : (doc : Doc) (design : Designed) → document_in bytes ≡ Ok doc → IsDesignOf doc design
       → IsOutput bytes command.Check (check_text doc.names design)

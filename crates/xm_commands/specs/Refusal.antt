@@ -22,8 +22,8 @@ document_status (wiring fault names) = 4
 document_status _ = 3
 
 -- Why a command refuses the bytes, with the status and the line of error: the first fault of the document, the first
--- colour that is not allowed, a loop of the dependence, for `run` the first fault of the tape, and for `inv` too many pairs
--- or an elimination that leaves 128 bits, in this order.
+-- colour that is not allowed, a loop of the dependence, for `run` the first fault of the tape, and for `inv` too many
+-- pairs or an elimination that leaves 128 bits, in this order.
 pub data Refuses (bytes : List ℕ) : Command → ℕ → List ℕ → Type 0 where
   of_document : {it : Command} (fault : Fault) → document_in bytes ≡ Err fault
       → Refuses bytes it (document_status fault) (document_line fault)
@@ -35,7 +35,7 @@ pub data Refuses (bytes : List ℕ) : Command → ℕ → List ℕ → Type 0 wh
       → IsDesignOf doc design → tape_in doc.net doc.tape ≡ Err fault → Refuses bytes command.Run 5 (tape_line fault)
   of_width : (doc : Doc) (design : Designed) → document_in bytes ≡ Ok doc → IsDesignOf doc design
       → most_pairs < pair_count design → Refuses bytes command.Inv 4 (width_line (pair_count design))
-  of_overflow : (doc : Doc) (design : Designed) (flow : Flow) (r s : SparseRow) (column : ℕ) → document_in bytes ≡ Ok doc
-      → IsDesignOf doc design → HasFlow design flow
+  of_overflow : (doc : Doc) (design : Designed) (flow : Flow) (r s : SparseRow) (column : ℕ)
+      → document_in bytes ≡ Ok doc → IsDesignOf doc design → HasFlow design flow
       → MeetsOverflow (pair_count design) (queue_pair_count design) flow.rows r s column
       → Refuses bytes command.Inv 8 (overflow_line column)

@@ -37,7 +37,8 @@ line_of refusal.TooLong = codes "too long\n"
 -- the statuses that there are
 abbrev pub is_status : ℕ → Bool
 is_status n =
-    (n == 0) || (n == 2) || (n == 3) || (n == 4) || (n == 5) || (n == 6) || (n == 7) || (n == 8) || (n == 9) || (n == 10)
+    (n == 0) || (n == 2) || (n == 3) || (n == 4) || (n == 5) || (n == 6) || (n == 7) || (n == 8) || (n == 9)
+    || (n == 10)
 
 -- the statuses of a document, its net, its tape and its invariants
 abbrev pub is_of_input : ℕ → Bool
