@@ -4,7 +4,7 @@ use Rattle.xm_design.specs.Designed.{Designed, IsDesigned}
 use Rattle.xm_model.specs.Next.{reset}
 use Rattle.xm_model.specs.Signals.{Signals}
 use Rattle.xm_model.specs.declared.state.Choice.TheVariants.{Ready}
-use Rattle.xm_flow.proofs.Holds.{rows_within}
+use Rattle.xm_flow.specs.Lemmas.Within.{rows_within}
 use Rattle.xm_flow.specs.FlowRows.{Flow, IsKept, columns}
 use Rattle.xm_flow.specs.Holding.{FlowHolds, IsFlowOf, column_value, pair_count, point, queue_pair_count}
 use Rattle.xm_rows.specs.Row.{SparseRow}
