@@ -10,7 +10,7 @@ use Rattle.xm_elim.specs.declared.work.Working.{Working}
 use Rattle.xm_elim.proofs.Passing.{same_item, same_place}
 use Rattle.xm_rows.specs.Lemmas.Unique.{one_cancelled}
 
-one_pivot : (rows : List Working) (column i j : ℕ) (w v : Working) → IsPivot rows column i w → IsPivot rows column j v → i ≡ j
+pub one_pivot : (rows : List Working) (column i j : ℕ) (w v : Working) → IsPivot rows column i w → IsPivot rows column j v → i ≡ j
 one_pivot rows column i j w v p q =
     elim (cases_order i j) [
       | inl same ↦ same
@@ -39,7 +39,7 @@ one_replaced column pivot v n m nonzero (cancelled taken status row c) (stays ou
 one_replaced column pivot v n m nonzero (cancelled taken status row c) (cancelled again other_status other_row d) =
     working_is n m (one_cancelled v.row pivot column n.row m.row nonzero row other_row c d) (status ∙ sym other_status)
 
-same_list : {X : Type 0} (xs ys : List X) → length xs ≡ length ys → ((i : ℕ) (x y : X) → slice_get xs i ≡ Some x → slice_get ys i ≡ Some y → x ≡ y) → xs ≡ ys
+pub same_list : {X : Type 0} (xs ys : List X) → length xs ≡ length ys → ((i : ℕ) (x y : X) → slice_get xs i ≡ Some x → slice_get ys i ≡ Some y → x ≡ y) → xs ≡ ys
 same_list [] [] len h = refl
 same_list [] (y ∷ ys) len h = absurd (omega arith)
 same_list (x ∷ xs) [] len h = absurd (omega arith)
@@ -66,20 +66,20 @@ one_step moves column rows next other (pivoted i w pivot whole at others) (pivot
           one_replaced column w.row u.0 x y pivot.candidate.entry first (subst (λ (z : Working). Replaced column z.row u.0 y) (sym v_is) last)
     ])
 
-one_reaches : (moves column : ℕ) (start rows others : List Working) → Reaches moves start column rows → Reaches moves start column others → rows ≡ others
+pub one_reaches : (moves column : ℕ) (start rows others : List Working) → Reaches moves start column rows → Reaches moves start column others → rows ≡ others
 one_reaches moves zero start rows others begin begin = refl
 one_reaches moves (suc column) start next others (more {rows = rows} before step) (more {rows = again} earlier other) =
     let same = one_reaches moves column start rows again before earlier in
     one_step moves column rows next others step (subst (λ (l : List Working). Step moves column l others) (sym same) other)
 
 -- the rows before a column that was passed
-record Before (moves column : ℕ) (start : List Working) : Type 0 where
-  rows : List Working
-  next : List Working
-  reaches : Reaches moves start column rows
-  step : Step moves column rows next
+pub record Before (moves column : ℕ) (start : List Working) : Type 0 where
+  pub rows : List Working
+  pub next : List Working
+  pub reaches : Reaches moves start column rows
+  pub step : Step moves column rows next
 
-before_column : (moves column base : ℕ) (start rows : List Working) → column < base → Reaches moves start base rows → Before moves column start
+pub before_column : (moves column base : ℕ) (start rows : List Working) → column < base → Reaches moves start base rows → Before moves column start
 before_column moves column zero start rows below begin = absurd (omega arith)
 before_column moves column (suc base) start next below (more {rows = rows} before step) =
     elim (cases_eq column base) [
@@ -93,7 +93,7 @@ before_column moves column (suc base) start next below (more {rows = rows} befor
       | inr other ↦ before_column moves column base start rows (omega arith) before
     ]
 
-no_overflow : (moves column : ℕ) (rows next : List Working) (r s : SparseRow) → Step moves column rows next → IsFirstOverflow rows column r s → ⊥
+pub no_overflow : (moves column : ℕ) (rows next : List Working) (r s : SparseRow) → Step moves column rows next → IsFirstOverflow rows column r s → ⊥
 no_overflow moves column rows next r s (passed out is) f = out f.i f.pivot f.is_pivot.at f.is_pivot.candidate
 no_overflow moves column rows next r s (pivoted i w pivot whole at others) f =
     let same = one_pivot rows column f.i i f.pivot w f.is_pivot pivot in

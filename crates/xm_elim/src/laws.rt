@@ -1,8 +1,23 @@
-//! A law of the elimination. A caller has it as the clause of a call.
+//! Laws of the elimination. A caller has each as the clause of a call.
 
+ghost use Rattle.xm_elim.specs.Determined.{OneEnd, OneOverflow};
 ghost use Rattle.xm_elim.specs.Elimination.{ExclusiveEnds};
+
+use xm_rows::first_factor_is_positive;
 
 /// An elimination that has an end meets no overflow: it is determined.
 pub fn ends_exclude()
     ensures { ExclusiveEnds }
+{}
+
+/// The rows that an elimination leaves are determined.
+pub fn one_end()
+    ensures { OneEnd }
+{
+    first_factor_is_positive();
+}
+
+/// The column of the first overflow is determined.
+pub fn one_overflow()
+    ensures { OneOverflow }
 {}
