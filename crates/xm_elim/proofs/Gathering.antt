@@ -1,6 +1,6 @@
 -- The lemmas of the pivots, one after another.
-use Rattle.std.proofs.Common.{◌≡◌, ◌≢◌, ℕ, zero, suc, ◌+◌, ◌<◌, inl, inr, List, [], ◌∷◌, ◌++◌, length, length-append, map, get_or, slice_get, Some, refl, sym, ◌∙◌, ap, subst, arith, add-one}
-use Rattle.std.proofs.lemmas.List.{map-append}
+use Rattle.std.proofs.Common.{◌≡◌, ◌≢◌, ◌↔◌, Bool, false, take, IsTrue, ℕ, zero, suc, ◌+◌, ◌<◌, inl, inr, List, [], ◌∷◌, ◌++◌, length, length-append, map, get_or, slice_get, Some, refl, sym, ◌∙◌, ap, subst, arith, add-one}
+use Rattle.std.proofs.lemmas.List.{map-append, take_more}
 use Rattle.xm_flow.specs.ValidLemma.{Lemma, lemma_of}
 use Rattle.xm_flow.specs.declared.invariant.Invariant.{Invariant}
 use Rattle.xm_rows.specs.Row.{SparseRow}
@@ -9,6 +9,9 @@ use Rattle.xm_elim.specs.Inner.Places.{AreGathered, Leads}
 use Rattle.xm_elim.specs.declared.work.Status.{Status}
 use Rattle.xm_elim.specs.declared.work.Status.TheVariants.{Pivot}
 use Rattle.xm_elim.specs.declared.work.Working.{Working}
+use Rattle.xm_model.specs.Membership.{IsIn}
+use Rattle.xm_elim.proofs.Looking.{never}
+use Rattle.xm_elim.proofs.Placing.{in_push}
 use Rattle.xm_elim.proofs.Spanning.{split_last}
 
 pub gathered_none : (moves counts : ℕ) (rows : List Working) (lemmas : List Invariant) → lemmas ≡ [] → AreGathered moves counts rows 0 (map lemma_of lemmas)
@@ -75,3 +78,16 @@ pub eliminated : (moves counts : ℕ) (flow : List SparseRow) (rows : List Worki
     AreGathered moves counts rows counts lemmas → Eliminates moves counts flow lemmas
 eliminated moves counts flow rows lemmas reaches h =
     record { rows = rows; reaches = reaches; pivots = h.pivots; taken = h.taken; whole = h.whole; parted = h.parted }
+
+-- a place whose row was no pivot of the column
+pub passed_pivot : (rows : List Working) (places : List ℕ) (i column : ℕ) (d : Working) (b : Bool) → i < length places →
+    IsTrue b ↔ ((get_or rows (get_or places i 0) d).status ≡ Pivot column) → b ≡ false →
+    ((j : ℕ) (w : Working) → IsIn (take i places) j → slice_get rows j ≡ Some w → w.status ≢ Pivot column) →
+    (j : ℕ) (w : Working) → IsIn (take (i + 1) places) j → slice_get rows j ≡ Some w → w.status ≢ Pivot column
+passed_pivot rows places i column d b within test not h j w inside at is =
+    elim (in_push (take i places) (get_or places i 0) j (subst (λ (l : List ℕ). IsIn l j) (take_more places i 0 within) inside)) [
+      | inl early ↦ h j w early at is
+      | inr last ↦
+          let w_is = there rows (get_or places i 0) d w (ap (slice_get rows) last ∙ at) in
+          never b (test.1 (ap (λ (v : Working). v.status) w_is ∙ is)) not
+    ]

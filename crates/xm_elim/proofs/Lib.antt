@@ -12,6 +12,8 @@ mod Reducing
 mod Bases
 mod Looking
 mod Placing
+mod Covering
+mod Ordering
 mod Replacing
 mod Stepping
 mod Parting

@@ -39,8 +39,14 @@ pub fn lemmas_of(
     first_factor_is_positive();
     match eliminate(alloc, flow, moves, counts) {
         Err(fault) => Err(fault),
-        Ok(rows) => {
-            let lemmas = gather(alloc, rows.as_slice(), moves, counts)?;
+        Ok(it) => {
+            let lemmas = gather(
+                alloc,
+                it.rows.as_slice(),
+                it.columns.as_slice(),
+                moves,
+                counts,
+            )?;
             Ok(lemmas)
         }
     }

@@ -86,12 +86,6 @@ abbrev pub IsPlace : ℕ → Option ℕ → Type 0
 IsPlace n None = Unit {0}
 IsPlace n (Some b) = b < n
 
--- the places of the taken rows among the first p
-pub record ArePlacesBelow (rows : List Working) (column p : ℕ) (places : List ℕ) : Type 0 where
-  pub rise : Rises places
-  pub below : All (λ q. q < p) places
-  pub complete : (j : ℕ) (w : Working) → j < p → slice_get rows j ≡ Some w → IsTaken column w → IsIn places j
-
 -- a column's first cancel that leaves 128 bits
 pub record PassRefused (column : ℕ) (rows : List Working) (r s : SparseRow) (c : ℕ) : Type 0 where
   pub same : c ≡ column
