@@ -12,6 +12,7 @@ mod Reducing
 mod Bases
 mod Looking
 mod Placing
+mod Adding
 mod Covering
 mod Ordering
 mod Replacing
