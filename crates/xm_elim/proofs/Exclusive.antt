@@ -3,8 +3,9 @@ use Rattle.std.proofs.Common.{◌≡◌, ◌≢◌, ℕ, zero, suc, ◌+◌, ◌
 use Rattle.std.proofs.lemmas.Bool.{cases_eq, cases_order}
 use Rattle.xm_rows.specs.Lemmas.Unique.{never_both}
 use Rattle.xm_rows.specs.Combination.{Overflows}
+use Rattle.xm_flow.specs.ValidLemma.{Lemma}
 use Rattle.xm_rows.specs.Row.{SparseRow, coefficient}
-use Rattle.xm_elim.specs.Elimination.{ExclusiveEnds, IsFirstOverflow, IsPivot, Reaches, Replaced, Step, after, begin, begun_from, cancelled, more, passed, pivoted, stays}
+use Rattle.xm_elim.specs.Elimination.{Eliminates, MeetsOverflow, IsFirstOverflow, IsPivot, Reaches, Replaced, Step, after, begin, begun_from, cancelled, more, passed, pivoted, stays}
 use Rattle.xm_elim.specs.declared.work.Status.{Status}
 use Rattle.xm_elim.specs.declared.work.Working.{Working}
 use Rattle.xm_elim.proofs.Passing.{same_item, same_place}
@@ -107,8 +108,9 @@ no_overflow moves column rows next r s (pivoted i w pivot whole at others) f =
     by_replaced n w (stays out is) nonzero overflows = out f.is_taken
     by_replaced n w (cancelled taken status row c) nonzero overflows = never_both f.taken.row w.row column n.row nonzero c overflows
 
-pub exclusive : ExclusiveEnds
-exclusive moves counts flow lemmas r s column e m =
+pub never_meets : (moves counts : ℕ) (flow : List SparseRow) (lemmas : List Lemma) (r s : SparseRow) (column : ℕ) →
+    Eliminates moves counts flow lemmas → MeetsOverflow moves counts flow r s column → ⊥
+never_meets moves counts flow lemmas r s column e m =
     let b = before_column moves column (moves + counts) (begun_from (moves + counts) 0 flow) e.rows m.before_end e.reaches in
     let same = one_reaches moves column (begun_from (moves + counts) 0 flow) b.rows m.rows b.reaches m.reaches in
     no_overflow moves column b.rows b.next r s b.step (subst (λ (l : List Working). IsFirstOverflow l column r s) (sym same) m.first)

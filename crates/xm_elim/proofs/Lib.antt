@@ -12,6 +12,9 @@ mod Reducing
 mod Bases
 mod Looking
 mod Placing
+mod Adding
+mod Covering
+mod Ordering
 mod Replacing
 mod Stepping
 mod Parting

@@ -1,12 +1,12 @@
 -- Places of rows, and the best of them.
 use Rattle.std.proofs.Common.{◌≡◌, ℕ, zero, suc, ◌+◌, ◌<◌, ◌≤◌, ◌⊎◌, inl, inr, List, [], ◌∷◌, ◌++◌, length, get_or, take, drop, slice_get, Option, Some, None, refl, sym, ◌∙◌, ap, subst, arith, IfNone, IfSome, All}
-use Rattle.std.proofs.lemmas.Bool.{cases_eq}
 use Rattle.std.proofs.lemmas.List.{take_more, take_all}
-use Rattle.std.proofs.lemmas.List.Elements.{All-head, All-tail, All-cons, All-nil, All-push, All-weaker}
+use Rattle.std.proofs.lemmas.List.Elements.{All-head, All-tail, All-cons, All-nil, All-push}
 use Rattle.xm_colours.specs.Family.{Rises}
 use Rattle.xm_model.specs.Membership.{IsIn}
 use Rattle.xm_elim.specs.Elimination.{IsCandidate, IsPivot, IsTaken}
-use Rattle.xm_elim.specs.Inner.Places.{ArePlaces, ArePlacesBelow, IsBest, IsBestAt}
+use Rattle.xm_elim.specs.Inner.Columns.{AreTakenOf, IsRisingOf}
+use Rattle.xm_elim.specs.Inner.Places.{ArePlaces, IsBest, IsBestAt}
 use Rattle.xm_elim.specs.declared.work.Status.TheVariants.{Gone, Waiting}
 use Rattle.xm_elim.specs.declared.work.Working.{Working}
 use Rattle.xm_elim.proofs.Passing.{same_item}
@@ -148,47 +148,48 @@ best_pivot rows column places b are h = (
   },
 )
 
--- ---- the places below a place
+-- ---- the places of the rows that are taken
 
-pub below_none : (rows : List Working) (column : ℕ) (places : List ℕ) → places ≡ [] → ArePlacesBelow rows column 0 places
-below_none rows column places is =
-    subst (ArePlacesBelow rows column 0) (sym is) (record { rise = tt; below = All-nil (λ q. q < 0); complete = λ j w less. absurd (omega arith) })
+pub taken_none : (rows : List Working) (column : ℕ) (places : List ℕ) → places ≡ [] → AreTakenOf rows column [] places
+taken_none rows column places is =
+    subst (AreTakenOf rows column []) (sym is) (record { within = All-nil (λ p. p < length rows); complete = λ j w inside. absurd inside })
 
-pub below_taken : (rows : List Working) (column p : ℕ) (places next : List ℕ) → next ≡ places ++ p ∷ [] → ArePlacesBelow rows column p places → ArePlacesBelow rows column (p + 1) next
-below_taken rows column p places next is h =
-    subst (ArePlacesBelow rows column (p + 1)) (sym is) (record {
-      rise = rise_push places p h.rise h.below;
-      below = All-push (λ q. q < p + 1) places p (All-weaker (λ q. q < p) (λ q. q < p + 1) (λ q less. omega arith) places h.below) (omega arith);
-      complete = λ j w less at taken. elim (cases_eq j p) [
-        | inl same ↦ subst (IsIn (places ++ p ∷ [])) (sym same) (in_last places p)
-        | inr other ↦ in_left places (p ∷ []) j (h.complete j w (omega arith) at taken)
+pub taken_more : (rows : List Working) (column : ℕ) (given : List ℕ) (i : ℕ) (places next : List ℕ) → i < length given → All (λ p. p < length rows) given →
+    next ≡ places ++ get_or given i 0 ∷ [] → AreTakenOf rows column (take i given) places → AreTakenOf rows column (take (i + 1) given) next
+taken_more rows column given i places next within below is h =
+    let p = get_or given i 0 in
+    subst (AreTakenOf rows column (take (i + 1) given)) (sym is) (record {
+      within = All-push (λ q. q < length rows) places p h.within (below i 0 within);
+      complete = λ j w inside at taken. elim (in_push (take i given) p j (subst (λ (l : List ℕ). IsIn l j) (take_more given i 0 within) inside)) [
+        | inl early ↦ in_left places (p ∷ []) j (h.complete j w early at taken)
+        | inr last ↦ subst (IsIn (places ++ p ∷ [])) last (in_last places p)
       ];
     })
 
-pub below_passed : (rows : List Working) (column p : ℕ) (places : List ℕ) (v : Working) → slice_get rows p ≡ Some v → (IsTaken column v → ⊥) →
-    ArePlacesBelow rows column p places → ArePlacesBelow rows column (p + 1) places
-below_passed rows column p places v at_p not h =
+pub taken_passed : (rows : List Working) (column : ℕ) (given : List ℕ) (i : ℕ) (places : List ℕ) (v : Working) → i < length given → slice_get rows (get_or given i 0) ≡ Some v →
+    (IsTaken column v → ⊥) → AreTakenOf rows column (take i given) places → AreTakenOf rows column (take (i + 1) given) places
+taken_passed rows column given i places v within at_p not h =
+    let p = get_or given i 0 in
     record {
-      rise = h.rise;
-      below = All-weaker (λ q. q < p) (λ q. q < p + 1) (λ q less. omega arith) places h.below;
-      complete = λ j w less at taken. elim (cases_eq j p) [
-        | inl same ↦ absurd (not (subst (IsTaken column) (same_item rows p w v (ap (slice_get rows) (sym same) ∙ at) at_p) taken))
-        | inr other ↦ h.complete j w (omega arith) at taken
+      within = h.within;
+      complete = λ j w inside at taken. elim (in_push (take i given) p j (subst (λ (l : List ℕ). IsIn l j) (take_more given i 0 within) inside)) [
+        | inl early ↦ h.complete j w early at taken
+        | inr last ↦ absurd (not (subst (IsTaken column) (same_item rows p w v (ap (slice_get rows) last ∙ at) at_p) taken))
       ];
     }
 
-pub below_all : (rows : List Working) (column p : ℕ) (places : List ℕ) → length rows ≡ p → ArePlacesBelow rows column p places → ArePlaces rows column places
-below_all rows column p places whole h =
+pub taken_all : (rows : List Working) (column : ℕ) (given : List ℕ) (i : ℕ) (places : List ℕ) → length given ≤ i → AreTakenOf rows column (take i given) places →
+    AreTakenOf rows column given places
+taken_all rows column given i places past h = subst (λ (l : List ℕ). AreTakenOf rows column l places) (take_all i given past) h
+
+pub placed : (rows : List Working) (column : ℕ) (noted taken places : List ℕ) → ((j : ℕ) (w : Working) → slice_get rows j ≡ Some w → IsTaken column w → IsIn noted j) →
+    AreTakenOf rows column noted taken → IsRisingOf taken places → ArePlaces rows column places
+placed rows column noted taken places covers t r =
     record {
-      rise = h.rise;
-      within = All-weaker (λ q. q < p) (λ q. q < length rows) (λ q less. omega arith) places h.below;
-      complete = λ j w at taken. h.complete j w (let less = slice_get_below rows j w at in omega arith) at taken;
+      rise = r.rise;
+      within = r.within (length rows) t.within;
+      complete = λ j w at is. r.complete j (t.complete j w (covers j w at is) at is);
     }
-  where
-    slice_get_below : (xs : List Working) (i : ℕ) (x : Working) → slice_get xs i ≡ Some x → i < length xs
-    slice_get_below [] i x at = cc
-    slice_get_below (y ∷ ys) zero x at = omega arith
-    slice_get_below (y ∷ ys) (suc i) x at = let rest = slice_get_below ys i x at in omega arith
 
 rises_tail : (x : ℕ) (xs : List ℕ) → Rises (x ∷ xs) → Rises xs
 rises_tail x [] up = tt

@@ -73,7 +73,7 @@ step_whole moves column rows next (pivoted i w pivot whole at others) = whole
 pub reaches_begin : (moves base : ℕ) (flow : List SparseRow) (rows : List Working) → rows ≡ begun_from base 0 flow → Reaches moves (begun_from base 0 flow) 0 rows
 reaches_begin moves base flow rows is = subst (Reaches moves (begun_from base 0 flow) 0) (sym is) begin
 
-pub refilled : (rows lent next : List Working) → lent ≡ rows → length next ≡ length lent → refill (length rows) rows next ≡ next
+pub refilled : {X : Type 0} (rows lent next : List X) → lent ≡ rows → length next ≡ length lent → refill (length rows) rows next ≡ next
 refilled rows lent next is whole = refill-full (length rows) rows next (whole ∙ ap length is)
 
 pub reaches_refilled : (moves column : ℕ) (start rows lent next : List Working) → lent ≡ rows → Reaches moves start column rows → Step moves column lent next →

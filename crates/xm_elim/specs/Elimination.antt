@@ -1,13 +1,14 @@
 -- The elimination of moves from flow rows, column by column, and then of packets among what is left.
 -- Columns of working rows are those of moves, from 0, then those of packets, and then one for each flow row: its factor.
-use Rattle.std.specs.Prelude.{◌≡◌, ◌≢◌, ℕ, zero, suc, ◌+◌, ◌-◌, ◌<◌, ◌≤◌, Bool, List, [], ◌∷◌, ◌++◌, length, slice_get, Some, cond, nat_lt, ℤ, pos, neg_ℤ, ◌*ℤ◌, ◌<ℤ◌, unsigned_abs, All}
+use Rattle.std.specs.Prelude.{◌≡◌, ◌≢◌, ◌⊎◌, ℕ, zero, suc, ◌+◌, ◌-◌, ◌<◌, ◌≤◌, Bool, List, [], ◌∷◌, ◌++◌, length, slice_get, Some, cond, nat_lt, ℤ, pos, neg_ℤ, ◌*ℤ◌, ◌<ℤ◌, unsigned_abs, All}
 use Rattle.std.specs.Int.{is_negative}
-use Rattle.xm_flow.specs.ValidLemma.{Lemma}
+use Rattle.xm_flow.specs.ValidLemma.{Lemma, TestFits}
 use Rattle.xm_flow.specs.declared.invariant.Part.{Part}
 use Rattle.xm_rows.specs.Combination.{IsCancelled, Overflows}
 use Rattle.xm_rows.specs.Divisor.{IsRowDivisor}
 use Rattle.xm_rows.specs.Row.{IsRow, SparseRow, coefficient}
 use Rattle.xm_rows.specs.declared.row.Entry.{Entry}
+use Rattle.xm_elim.specs.Basis.{AreOver}
 use Rattle.xm_elim.specs.declared.fault.ElimFault.{ElimFault}
 use Rattle.xm_elim.specs.declared.fault.ElimFault.TheVariants as fault
 use Rattle.xm_elim.specs.declared.work.Status.{Status}
@@ -128,6 +129,31 @@ pub record MeetsOverflow (moves counts : ℕ) (flow : List SparseRow) (r s : Spa
   pub before_end : column < moves + counts
   pub first : IsFirstOverflow rows column r s
 
--- an elimination that has an end meets no overflow
+-- the test of a lemma leaves 128 bits, and that of none before it: it counts as a cancel of its pivot r with itself
+pub record FailsTest (moves counts : ℕ) (flow : List SparseRow) (r s : SparseRow) (column : ℕ) : Type 0 where
+  pub lemmas : List Lemma
+  pub ends : Eliminates moves counts flow lemmas
+  pub i : ℕ
+  pub it : Lemma
+  pub at : slice_get lemmas i ≡ Some it
+  pub fails : ¬ TestFits flow it
+  pub earlier : (j : ℕ) (l : Lemma) → j < i → slice_get lemmas j ≡ Some l → TestFits flow l
+  pub is_r : slice_get ends.pivots i ≡ Some r
+  pub is_s : s ≡ r
+  pub place : ℕ
+  pub pivot : slice_get ends.rows place ≡ Some (record { row = r; status = Pivot column })
+
+-- the lemmas are what the elimination leaves, and the test of each stays within 128 bits
+pub record EndsWith (moves counts : ℕ) (flow : List SparseRow) (lemmas : List Lemma) : Type 0 where
+  pub eliminates : Eliminates moves counts flow lemmas
+  pub tested : All (TestFits flow) lemmas
+
+-- the elimination or the test of what it leaves leaves 128 bits
+abbrev pub ElimOverflows : ℕ → ℕ → List SparseRow → SparseRow → SparseRow → ℕ → Type 0
+ElimOverflows moves counts flow r s column = MeetsOverflow moves counts flow r s column ⊎ FailsTest moves counts flow r s column
+
+-- an elimination that has a good end meets no overflow
 abbrev pub ExclusiveEnds : Type 0
-ExclusiveEnds = (moves counts : ℕ) (flow : List SparseRow) (lemmas : List Lemma) (r s : SparseRow) (column : ℕ) → Eliminates moves counts flow lemmas → MeetsOverflow moves counts flow r s column → ⊥
+ExclusiveEnds =
+    (moves counts : ℕ) (flow : List SparseRow) (lemmas : List Lemma) (r s : SparseRow) (column : ℕ) → AreOver (moves + counts) flow →
+    EndsWith moves counts flow lemmas → ElimOverflows moves counts flow r s column → ⊥

@@ -5,12 +5,14 @@ ghost use Rattle.xm_elim.specs.Elimination.{ExclusiveEnds};
 
 use xm_rows::first_factor_is_positive;
 
-/// An elimination that has an end meets no overflow: it is determined.
+/// An elimination that has a good end meets no overflow: it is determined.
 pub fn ends_exclude()
     ensures { ExclusiveEnds }
-{}
+{
+    first_factor_is_positive();
+}
 
-/// The rows that an elimination leaves are determined.
+/// What an elimination leaves is determined.
 pub fn one_end()
     ensures { OneEnd }
 {
@@ -20,4 +22,6 @@ pub fn one_end()
 /// The column of the first overflow is determined.
 pub fn one_overflow()
     ensures { OneOverflow }
-{}
+{
+    first_factor_is_positive();
+}

@@ -4,7 +4,7 @@ ghost use Rattle.std.specs.Prelude.{◌≡◌, ◌-◌, ◌≤◌, ◌<◌, ◌^
 ghost use Rattle.xm_colours.specs.Family.{colours_at};
 ghost use Rattle.xm_colours.specs.Pairs.{queue_pairs_at};
 ghost use Rattle.xm_flow.specs.Inner.Building.{AreMade, IsReady};
-ghost use Rattle.xm_flow.specs.FlowRows.{columns, flow_rows};
+ghost use Rattle.xm_flow.specs.FlowRows.{IsKept, columns, flow_rows};
 ghost use Rattle.xm_flow.specs.Holding.{IsFlowOf, most_pairs, pair_count, queue_pair_count};
 ghost use Rattle.xm_flow.specs.declared.build.FlowFault.TheVariants as fault;
 ghost use Rattle.xm_model.specs.Component.{component_of};
@@ -78,6 +78,7 @@ fn rows_of(alloc: Global, places: &Places, design: &Design) -> Result<List<Row>,
 /// The flow rows of a design, where it has no more than 4,096 pairs.
 pub fn flow(alloc: Global, design: &Design) -> Result<FlowRows, FlowFault>
     ensures ok { IfOk result (IsFlowOf design.now) }
+    ensures kept { IfOk result IsKept }
     ensures wide { (n : ℕ) → result ≡ Err (fault.TooWide n) → (n ≡ pair_count design.now) × (most_pairs < n) }
     ensures narrow { most_pairs < pair_count design.now → IsErr result }
 {

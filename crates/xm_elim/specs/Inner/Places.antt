@@ -1,13 +1,14 @@
 -- Inner: how far a loop over the rows of a column has come. No public clause cites these.
-use Rattle.std.specs.Prelude.{◌≡◌, ◌≢◌, ◌⊎◌, ℕ, ◌-◌, ◌<◌, ◌≤◌, List, [], ◌∷◌, length, drop, slice_get, cond, nat_lt, ◌+◌, ℤ, pos, ◌*ℤ◌, ◌<ℤ◌, Option, Some, None, All}
+use Rattle.std.specs.Prelude.{◌≡◌, ◌≢◌, ◌⊎◌, ℕ, ◌-◌, ◌<◌, ◌≤◌, List, [], ◌∷◌, length, drop, slice_get, cond, nat_lt, ◌+◌, ℤ, pos, ◌*ℤ◌, ◌<ℤ◌, Option, Some, None, All, Bool, true, false}
 use Rattle.xm_colours.specs.Family.{Rises}
 use Rattle.xm_model.specs.Membership.{IsIn}
 use Rattle.xm_rows.specs.Row.{Fits128, IsRow, SparseRow, coefficient}
 use Rattle.xm_rows.specs.Divisor.{IsRowDivisor}
 use Rattle.xm_rows.specs.declared.row.Entry.{Entry}
-use Rattle.xm_flow.specs.ValidLemma.{Lemma}
+use Rattle.xm_flow.specs.ValidLemma.{Lemma, TestFits}
 use Rattle.xm_rows.specs.Combination.{IsCancelled, Overflows}
 use Rattle.xm_elim.specs.Elimination.{IsCandidate, IsFirstOverflow, IsParted, IsTaken, Pivots, Replaced}
+use Rattle.xm_elim.specs.declared.work.Status.TheVariants.{Pivot}
 use Rattle.xm_elim.specs.declared.work.Working.{Working}
 
 -- rising places of rows, among them that of each row that is taken
@@ -86,12 +87,6 @@ abbrev pub IsPlace : ℕ → Option ℕ → Type 0
 IsPlace n None = Unit {0}
 IsPlace n (Some b) = b < n
 
--- the places of the taken rows among the first p
-pub record ArePlacesBelow (rows : List Working) (column p : ℕ) (places : List ℕ) : Type 0 where
-  pub rise : Rises places
-  pub below : All (λ q. q < p) places
-  pub complete : (j : ℕ) (w : Working) → j < p → slice_get rows j ≡ Some w → IsTaken column w → IsIn places j
-
 -- a column's first cancel that leaves 128 bits
 pub record PassRefused (column : ℕ) (rows : List Working) (r s : SparseRow) (c : ℕ) : Type 0 where
   pub same : c ≡ column
@@ -109,12 +104,54 @@ abbrev pub lowered : ℕ → ℕ → List Entry → List Entry
 lowered from base [] = []
 lowered from base (e ∷ es) = cond (nat_lt e.column base) (record { column = e.column - from; value = e.value } ∷ lowered from base es) (lowered from base es)
 
--- the lemmas of the pivots of the first n columns of packets
-pub record AreGathered (moves counts : ℕ) (rows : List Working) (n : ℕ) (lemmas : List Lemma) : Type 0 where
+-- the first lemma whose test leaves 128 bits is that of the pivot at the place
+pub record IsFirstFailing (flow : List SparseRow) (rows : List Working) (pivots : List SparseRow) (lemmas : List Lemma) (place : ℕ) : Type 0 where
+  pub i : ℕ
+  pub it : Lemma
+  pub at : slice_get lemmas i ≡ Some it
+  pub fails : ¬ TestFits flow it
+  pub earlier : (j : ℕ) (l : Lemma) → j < i → slice_get lemmas j ≡ Some l → TestFits flow l
+  pub r : SparseRow
+  pub column : ℕ
+  pub is_r : slice_get pivots i ≡ Some r
+  pub pivot : slice_get rows place ≡ Some (record { row = r; status = Pivot column })
+
+-- each lemma is tested; the first that leaves 128 bits is that of the pivot at this place, where there is one
+abbrev pub AreTested : List SparseRow → List Working → List SparseRow → List Lemma → Option ℕ → Type 0
+AreTested flow rows pivots lemmas None = All (TestFits flow) lemmas
+AreTested flow rows pivots lemmas (Some place) = IsFirstFailing flow rows pivots lemmas place
+
+-- the first place that fails, after one test more
+abbrev pub first_failed : Option ℕ → Bool → ℕ → Option ℕ
+first_failed (Some p) fits place = Some p
+first_failed None true place = None
+first_failed None false place = Some place
+
+-- the lemmas of the pivots of the first n columns of packets, and the first that fails its test
+pub record AreGathered (moves counts : ℕ) (flow : List SparseRow) (rows : List Working) (n : ℕ) (lemmas : List Lemma) (failed : Option ℕ) : Type 0 where
   pub pivots : List SparseRow
   pub taken : Pivots moves rows n pivots
   pub whole : length lemmas ≡ length pivots
   pub parted : (i : ℕ) (r : SparseRow) (it : Lemma) → slice_get pivots i ≡ Some r → slice_get lemmas i ≡ Some it → IsParted moves counts r it
+  pub tested : AreTested flow rows pivots lemmas failed
+
+-- the row at the place is a pivot
+abbrev pub IsPivotPlace : List Working → ℕ → Type 0
+IsPivotPlace rows place = (r : SparseRow) × ((column : ℕ) × (slice_get rows place ≡ Some (record { row = r; status = Pivot column })))
+
+-- the test of this pivot's lemma is refused: its row with itself
+pub record IsTestRefused (it : Working) (r s : SparseRow) (column : ℕ) : Type 0 where
+  pub is_r : r ≡ it.row
+  pub is_s : s ≡ it.row
+  pub status : it.status ≡ Pivot column
+
+-- and it is that of the pivot at the place
+pub record IsPlaceRefused (rows : List Working) (failed : Option ℕ) (r s : SparseRow) (column : ℕ) : Type 0 where
+  pub place : ℕ
+  pub is : failed ≡ Some place
+  pub it : Working
+  pub at : slice_get rows place ≡ Some it
+  pub refused : IsTestRefused it r s column
 
 -- the row is what the pivot says of packets, over the factor, in lowest terms with a positive lead
 pub record IsReducedPivot (moves counts : ℕ) (pivot new : SparseRow) (factor : ℤ) : Type 0 where
