@@ -271,13 +271,13 @@ module _ (it : Designed) where
       elim (cases_lt j k) [
         | inl below ↦ absurd (not_before rows ls j k v w first second below)
         | inr past ↦ elim (cases_lt k j) [
-            | inl below ↦ absurd (not_before rows ls k j w v second first below)
-            | inr same ↦
-                let e : j ≡ k = omega arith in
-                let at : slice_get ls k ≡ Some first.lemma = subst (λ (i : ℕ). slice_get ls i ≡ Some first.lemma) e first.at in
-                let one : first.lemma ≡ second.lemma = (let both : Some first.lemma ≡ Some second.lemma = sym at ∙ second.at in cc) in
-                (e, one_reason rows second.lemma v w (subst (λ (l : Lemma). LemmaBreaks it rows l v) one first.breaks) second.breaks)
-          ]
+          | inl below ↦ absurd (not_before rows ls k j w v second first below)
+          | inr same ↦
+              let e : j ≡ k = omega arith in
+              let at : slice_get ls k ≡ Some first.lemma = subst (λ (i : ℕ). slice_get ls i ≡ Some first.lemma) e first.at in
+              let one : first.lemma ≡ second.lemma = (let both : Some first.lemma ≡ Some second.lemma = sym at ∙ second.at in cc) in
+              (e, one_reason rows second.lemma v w (subst (λ (l : Lemma). LemmaBreaks it rows l v) one first.breaks) second.breaks)
+        ]
       ]
 
   one_verdict_of : (rows : List SparseRow) (p : Argument) (v w : Verdict) → IsVerdict it rows p v → IsVerdict it rows p w → v ≡ w

@@ -15,9 +15,9 @@ use crate::stop::{Stop, demand};
 use crate::sums::Sums;
 use std::alloc::Global;
 use xm_design::Design;
+use xm_flow::Invariant;
 use xm_lits::{Lit, on_path};
 use xm_model::{List, OutOfMemory, Prim};
-use xm_flow::Invariant;
 use xm_proof::{Item, Reason};
 use xm_rows::Entry;
 

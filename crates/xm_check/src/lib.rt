@@ -1,6 +1,7 @@
 //! Checks proofs that no channel jams: the first break of a proof, and what a valid one is worth.
 #![tactic(auto)]
 
+mod goals;
 mod items;
 mod laws;
 mod steps;

@@ -17,11 +17,11 @@ use crate::stop::{Stop, demand};
 use crate::sums::Sums;
 use std::alloc::Global;
 use xm_design::Design;
+use xm_flow::Invariant;
 use xm_lits::{
     Lit, Rule, RuleName, all_on_path, idle_lits, offered, on_path, opposed, outside, rules,
 };
 use xm_model::List;
-use xm_flow::Invariant;
 use xm_proof::{Goal, Node, Reason};
 
 /// What the steps of a goal refer to: the design, the lemmas, and the goals before.

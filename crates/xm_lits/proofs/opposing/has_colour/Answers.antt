@@ -3,7 +3,7 @@ use Rattle.std.specs.Prelude.{IsTrue, ◌↔◌}
 use Rattle.xm_colours.specs.Family.{colours_at}
 use Rattle.xm_lits.proofs.Rising.{told_by}
 use Rattle.xm_model.specs.Membership.{IsIn}
-use Rattle.xm_lits.proofs.opposing.has.Goals as goal
+use Rattle.xm_lits.proofs.opposing.has_colour.Goals as goal
 
 pub returns : goal.returns
 returns c =
