@@ -8,5 +8,6 @@ mod steps;
 mod stop;
 mod sums;
 mod trees;
+mod whole;
 
 pub use laws::{one_verdict, proofs_hold};
