@@ -30,21 +30,23 @@ pub(crate) struct RunSoFar {
     cycles: u32,
 }
 
-/// A round has at most so many cycles.
-const ROUND: u32 = 1024;
+/// The product of cycles and channels that a round has at most, unless one cycle has more.
+const ROUND: u32 = 32_768;
+
+/// How many cycles a round has in a net with so many channels, unless the run ends before.
+fn round_len(channels: u32) -> u32
+    ensures { 0 < result }
+{
+    (ROUND / channels.max(1)).max(1)
+}
 
 /// The cycle past the round that begins with cycle `from`.
-fn round_end(from: u32, cycles: u32) -> u32
+fn round_end(channels: u32, from: u32, cycles: u32) -> u32
     requires { from < cycles }
     ensures later { from < result }
-    ensures few { result ≤ from + ROUND }
     ensures within { result ≤ cycles }
 {
-    if cycles - from < ROUND {
-        cycles
-    } else {
-        from + ROUND
-    }
+    from + round_len(channels).min(cycles - from)
 }
 
 /// Runs the cycles up to `to` and writes their lines.
@@ -106,9 +108,10 @@ fn write_rounds<K: Sink>(
 {
     rounds_join();
     design.net().is_net();
+    let channels = design.net().channels();
     let cycles = tape.cycles();
     while run.cycles < cycles {
-        let to = round_end(run.cycles, cycles);
+        let to = round_end(channels, run.cycles, cycles);
         write_round(alloc, design, names, tape, run, to, out)?;
     }
     let end = run.text.end(alloc, names)?;

@@ -10,7 +10,7 @@ pub const STREAM: &str =
 pub const THREE_ROUNDS: &str =
     r#"{"version":1,"colours":["req"],"net":[{"kind":"source","name":"S","out":"c0","colours":["req"]},
     {"kind":"queue","name":"Q","in":"c0","out":"c1","capacity":1},
-    {"kind":"sink","name":"K","in":"c1"}],"tape":{"cycles":2500,"seed":1}}"#;
+    {"kind":"sink","name":"K","in":"c1"}],"tape":{"cycles":40000,"seed":1}}"#;
 
 /// A switch that sends its one colour to side b, and no tape.
 pub const SWITCH: &str =
