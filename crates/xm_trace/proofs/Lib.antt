@@ -1,3 +1,4 @@
+pub mod AtOnce
 pub mod Counting
 pub mod Labelling
 pub mod Lines

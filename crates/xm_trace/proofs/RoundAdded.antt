@@ -13,7 +13,7 @@ use Rattle.xm_trace.specs.declared.run_text.Total.{Total}
 use Rattle.xm_trace.specs.declared.trace.Move.{Move}
 
 -- no sum is above the number of cycles
-few_had : (state : RunTextState) (φ : ℕ → Signals) (c d : ℕ) → HasHad state φ → state.cycles < 2 ^ 32 → c < state.channels → d < state.colours → sum_at state.sums state.colours c d < 2 ^ 32
+pub few_had : (state : RunTextState) (φ : ℕ → Signals) (c d : ℕ) → HasHad state φ → state.cycles < 2 ^ 32 → c < state.channels → d < state.colours → sum_at state.sums state.colours c d < 2 ^ 32
 few_had state φ c d had few below within =
     let is = had.sums c d below within in
     let most = moves_few φ c d state.cycles in
