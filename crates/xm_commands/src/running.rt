@@ -21,7 +21,7 @@ use xm_io::Sink;
 use xm_model::{Names, State};
 use xm_step::reset;
 use xm_tape::Tape;
-use xm_trace::{Labels, RunText, rounds_join};
+use xm_trace::{Labels, Lines, RunText, rounds_join};
 
 /// A run that was begun: its state and its text after so many cycles, what its lines are made of, and the lines
 /// of one round, whose memory serves each.
@@ -30,7 +30,7 @@ pub(crate) struct RunSoFar {
     state: State,
     text: RunText,
     labels: Labels,
-    lines: Vec<u8>,
+    lines: Lines,
 }
 
 /// The product of cycles and channels that a round has at most, unless one cycle has more.
@@ -88,7 +88,7 @@ fn write_round<K: Sink>(
         to,
         &mut run.lines,
     )?;
-    write_bytes(out, &run.lines)
+    write_bytes(out, run.lines.as_bytes())
 }
 
 /// Goes on with a run from its first cycle and writes its text. The lines of a round leave before the next
@@ -147,7 +147,7 @@ pub fn write_run<K: Sink>(
         state: reset(alloc, design)?,
         text: RunText::new(alloc, design)?,
         labels: Labels::new(alloc, names)?,
-        lines: Vec::new(alloc),
+        lines: Lines::new(alloc),
     };
     write_rounds(alloc, design, names, tape, &mut run, out)
 }

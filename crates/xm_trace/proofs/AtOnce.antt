@@ -12,7 +12,7 @@ use Rattle.xm_model.specs.TextLines.{line}
 use Rattle.xm_model.specs.Views.{signals_of}
 use Rattle.xm_model.specs.declared.state.Wire.{Wire}
 use Rattle.xm_trace.proofs.Counting.{sum_few}
-use Rattle.xm_trace.proofs.Lines.{sum-append}
+use Rattle.xm_trace.proofs.Cycles.{sum-append}
 use Rattle.xm_trace.proofs.Running.{cycle_more}
 use Rattle.xm_trace.specs.Inner.Labels.{label_text}
 use Rattle.xm_trace.specs.Labels.{AreLabelsOf, Labelled}

@@ -5,7 +5,7 @@ use Rattle.xm_model.specs.Lending.{refill-full}
 use Rattle.xm_model.specs.Naming.{Naming}
 use Rattle.xm_model.specs.Run.{moves}
 use Rattle.xm_model.specs.Signals.{Signals}
-use Rattle.xm_trace.proofs.Lines.{moves_few, sum_lines_same, sum_round}
+use Rattle.xm_trace.proofs.Cycles.{moves_few, sum_lines_same, sum_round}
 use Rattle.xm_trace.specs.Sums.{sum_at, sum_in}
 use Rattle.xm_trace.specs.Text.{end_line, end_text, sum_lines}
 use Rattle.xm_trace.specs.RunTextState.{Follows, FollowsSome, HasHad, IsNamedBy, RunTextState, channel_totals, total_if, totals_of}

@@ -1,7 +1,6 @@
 //! What stands before the colour of a move, made once for each channel.
 
-ghost use Rattle.std.specs.Prelude.{◌≡◌, ◌+◌, ◌*◌, ◌^◌, ◌<◌, ◌≤◌, ◌++◌, length, IfOk};
-ghost use Rattle.std.specs.Vec.{vec_capacity};
+ghost use Rattle.std.specs.Prelude.{◌≡◌, ◌+◌, ◌*◌, ◌^◌, ◌<◌, ◌≤◌, ◌++◌, length, take, IfOk};
 ghost use Rattle.xm_model.specs.Limits.{most_channels};
 ghost use Rattle.xm_model.specs.TextLines.{name_at};
 ghost use Rattle.xm_model.specs.Naming.{naming_of, texts_of};
@@ -74,16 +73,17 @@ pub fn room_of_moves(texts: &MoveTexts, channels: u32) -> usize
     channels as usize * (texts.channels.widest as usize + texts.colours.widest as usize)
 }
 
-/// Appends the text of a move to the lines, which have room for it.
-pub fn put_move(lines: &mut Vec<u8>, texts: &MoveTexts, it: Move)
+/// Writes the text of a move at this place, and gives the place behind it.
+#[inline(always)]
+pub fn put_move(out: &mut [u8], at: usize, texts: &MoveTexts, it: Move) -> usize
     requires ready { AreReady texts.now }
-    requires room { length lines.old.items + move_room texts.now ≤ vec_capacity lines.old }
-    ensures items { lines.new.items ≡ lines.old.items ++ label_text (labelled_of texts.now) it }
-    ensures few { length lines.new.items ≤ length lines.old.items + move_room texts.now }
-    ensures grows { vec_capacity lines.old ≤ vec_capacity lines.new }
+    requires room { at + move_room texts.now ≤ length out.old }
+    ensures text { take result out.new ≡ take at out.old ++ label_text (labelled_of texts.now) it }
+    ensures within { result ≤ at + move_room texts.now }
+    ensures len { length out.new ≡ length out.old }
 {
-    put_at(lines, &texts.channels, it.channel as usize);
-    put_at(lines, &texts.colours, usize::from(it.colour));
+    let labelled = put_at(out, at, &texts.channels, it.channel as usize);
+    put_at(out, labelled, &texts.colours, usize::from(it.colour))
 }
 
 /// What the lines of a run are made of, made once for the run. A contract sees what stands before the colour of a

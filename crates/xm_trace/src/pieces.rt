@@ -1,9 +1,8 @@
 //! Texts that are put into lines often.
 
 ghost use Rattle.std.specs.Prelude.{◌≡◌, ◌+◌, ◌<◌, ◌≤◌, ◌^◌, [], ◌∷◌, ◌++◌, length, map, take, slice_index_or, IfOk, OnOk};
-ghost use Rattle.std.specs.Vec.{vec_capacity};
 ghost use Rattle.xm_model.specs.Naming.{texts_of};
-ghost use Rattle.xm_trace.specs.Inner.Pieces.{AreWithin, piece_room, piece_text, pieces_text};
+ghost use Rattle.xm_trace.specs.Inner.Pieces.{AreWithin, piece_len, piece_room, piece_text, pieces_text};
 
 use std::alloc::Global;
 use xm_model::{List, OutOfMemory, Text};
@@ -11,8 +10,8 @@ use xm_model::{List, OutOfMemory, Text};
 /// How many bytes are copied of a short text.
 const SHORT: usize = 16;
 
-/// A text. One of at most 16 bytes stands in front of zeros: all 16 are copied, without a call, and the rest is
-/// taken back, which costs less than a copy of its own length (measured with callgrind).
+/// A text. One of at most 16 bytes stands in front of zeros: all 16 are copied, and what follows is written over
+/// the zeros, which costs less than a copy of its own length (measured with callgrind).
 #[derive(Drop)]
 pub enum Piece {
     Short { bytes: [u8; SHORT], len: u8 },
@@ -41,6 +40,7 @@ fn padded(text: &[u8]) -> [u8; SHORT]
 /// The text as a piece. One of 4 GiB is refused as if there were no memory for it.
 fn piece_of(alloc: Global, text: &[u8]) -> Result<Piece, OutOfMemory>
     ensures text { IfOk result (λ piece. piece_text piece ≡ text.now) }
+    ensures short { IfOk result (λ piece. piece_len piece ≤ piece_room piece) }
     ensures room { IfOk result (λ piece. piece_room piece < 2 ^ 32) }
 {
     if text.len() <= SHORT {
@@ -91,33 +91,59 @@ pub fn pieces_of(alloc: Global, texts: &[Text]) -> Result<Pieces, OutOfMemory>
     Ok(pieces)
 }
 
-/// Appends the piece to the lines, which have room for it.
-fn put_piece(lines: &mut Vec<u8>, piece: &Piece)
-    requires room { length lines.old.items + piece_room piece.now ≤ vec_capacity lines.old }
-    ensures items { lines.new.items ≡ lines.old.items ++ piece_text piece.now }
-    ensures grows { vec_capacity lines.old ≤ vec_capacity lines.new }
+/// Writes the bytes of a short text at this place.
+#[inline(always)]
+fn put_short(out: &mut [u8], at: usize, bytes: &[u8; SHORT])
+    requires { at + length bytes.now ≤ length out.old }
+    ensures text { take (at + length bytes.now) out.new ≡ take at out.old ++ bytes.now }
+    ensures len { length out.new ≡ length out.old }
+{
+    out[at..at + SHORT].copy_from_slice(bytes);
+}
+
+/// Writes the text at this place. It is not inlined, so that the loop over the moves stays small.
+#[inline(never)]
+pub fn put_bytes(out: &mut [u8], at: usize, text: &[u8]) -> usize
+    requires { at + length text.now ≤ length out.old }
+    ensures end { result ≡ at + length text.now }
+    ensures text { take result out.new ≡ take at out.old ++ text.now }
+    ensures len { length out.new ≡ length out.old }
+{
+    let end = at + text.len();
+    out[at..end].copy_from_slice(text);
+    end
+}
+
+/// Writes the piece at this place, and gives the place behind it.
+#[inline(always)]
+fn put_piece(out: &mut [u8], at: usize, piece: &Piece) -> usize
+    requires short { piece_len piece.now ≤ piece_room piece.now }
+    requires room { at + piece_room piece.now ≤ length out.old }
+    ensures text { take result out.new ≡ take at out.old ++ piece_text piece.now }
+    ensures within { result ≤ at + piece_room piece.now }
+    ensures len { length out.new ≡ length out.old }
 {
     match piece {
         Piece::Short { bytes, len } => {
-            let end = lines.len() + usize::from(*len);
-            let _ = lines.extend_from_slice(bytes);
-            lines.truncate(end);
+            put_short(out, at, bytes);
+            at + usize::from(*len)
         }
-        Piece::Long(text) => {
-            let _ = lines.extend_from_slice(text.as_bytes());
-        }
+        Piece::Long(text) => put_bytes(out, at, text.as_bytes()),
     }
 }
 
-/// Appends the text with this number to the lines, which have room for it, and nothing where there is none.
-pub fn put_at(lines: &mut Vec<u8>, pieces: &Pieces, number: usize)
+/// Writes the text with this number at this place, and gives the place behind it. There is nothing to write where
+/// there is no such text.
+#[inline(always)]
+pub fn put_at(out: &mut [u8], at: usize, pieces: &Pieces, number: usize) -> usize
     requires within { AreWithin pieces.now }
-    requires room { length lines.old.items + pieces.now.widest ≤ vec_capacity lines.old }
-    ensures items { lines.new.items ≡ lines.old.items ++ slice_index_or (pieces_text pieces.now) number [] }
-    ensures few { length lines.new.items ≤ length lines.old.items + pieces.now.widest }
-    ensures grows { vec_capacity lines.old ≤ vec_capacity lines.new }
+    requires room { at + pieces.now.widest ≤ length out.old }
+    ensures text { take result out.new ≡ take at out.old ++ slice_index_or (pieces_text pieces.now) number [] }
+    ensures within { result ≤ at + pieces.now.widest }
+    ensures len { length out.new ≡ length out.old }
 {
-    if let Some(piece) = pieces.list.as_slice().get(number) {
-        put_piece(lines, piece);
+    match pieces.list.as_slice().get(number) {
+        Some(piece) => put_piece(out, at, piece),
+        None => at,
     }
 }

@@ -1,9 +1,8 @@
 //! The text of a run that is made round by round.
 
 ghost use Rattle.std.specs.Prelude.{◌≡◌, ℕ, ◌+◌, ◌-◌, ◌*◌, ◌^◌, ◌<◌, ◌≤◌, ◌++◌, decimal, length, IfOk, OnOk, OnErr};
-ghost use Rattle.std.specs.Vec.{vec_capacity};
 
-use crate::cycle_lines::put_line;
+use crate::buffer::Lines;
 use crate::labels::{Labels, MoveTexts, room_of_moves};
 use crate::sums::count_moves;
 use crate::text::{push_end, push_round};
@@ -102,7 +101,7 @@ impl RunText {
         state: &mut State,
         frame: &mut Frame,
         digits: &[u8],
-        lines: &mut Vec<u8>,
+        lines: &mut Lines,
     )
         requires digits { digits.now ≡ decimal self.old.cycles }
         requires ready { AreReady texts.now }
@@ -114,7 +113,7 @@ impl RunText {
         requires counted { self.old.cycles + 1 < 2 ^ 32 }
         requires wires { length frame.old.wires.items ≡ design.now.net.channels }
         requires room { length lines.old.items
-            + (length digits.now + design.now.net.channels * move_room texts.now + 1) ≤ vec_capacity lines.old }
+            + (length digits.now + design.now.net.channels * move_room texts.now + 1) ≤ lines.old.room }
         ensures here { IsUnderway design.now.net tape.now self.new state.new.cells.items }
         ensures lines { (names : Naming) (s : ℕ → ℕ → Content) (φ : ℕ → Signals)
             → AreLabelsOf names (labelled_of texts.now) → IsRunOf design.now.net tape.now s φ
@@ -128,8 +127,7 @@ impl RunText {
     {
         design.is_designed();
         step(design, state, tape.at(self.cycles), frame);
-        put_line(
-            lines,
+        lines.put_line(
             self.sums.as_mut_slice(),
             texts,
             self.colours as usize,
@@ -152,7 +150,7 @@ impl RunText {
         tape: &Tape,
         state: &mut State,
         to: u32,
-        lines: &mut Vec<u8>,
+        lines: &mut Lines,
     ) -> Result<(), OutOfMemory>
         requires labels { length labels.now.channels ≡ self.old.channels }
         requires here { IsUnderway design.now.net tape.now self.old state.old.cells.items }

@@ -7,10 +7,10 @@ returns-in_err-run-clause-front g c = λ names s φ are run. on_err c.from_resid
 
 pub returns-clause-whole : goal.returns-clause-whole
 returns-clause-whole g c = λ names s φ are run.
-    let same = lines_alone names φ c.args.run.now.text.cycles c.run.new.self.cycles c.args.to _ c.run.new.lines.items c.deref.result.now c.clear.ensures.items c.in_ok-run.ensures.come c.deref.ensures.value (c.in_ok-run.ensures.lines names s φ are run) in
+    let same = lines_alone names φ c.args.run.now.text.cycles c.run.new.self.cycles c.args.to _ c.run.new.lines.items c.as_bytes.result.now c.clear.ensures.items c.in_ok-run.ensures.come c.as_bytes.ensures (c.in_ok-run.ensures.lines names s φ are run) in
     on_ok_goes c.write_bytes.result (λ h. appends_same _ _ _ _ same h) c.write_bytes.ensures.whole
 
 pub returns-clause-front : goal.returns-clause-front
 returns-clause-front g c = λ names s φ are run.
-    let same = lines_alone names φ c.args.run.now.text.cycles c.run.new.self.cycles c.args.to _ c.run.new.lines.items c.deref.result.now c.clear.ensures.items c.in_ok-run.ensures.come c.deref.ensures.value (c.in_ok-run.ensures.lines names s φ are run) in
+    let same = lines_alone names φ c.args.run.now.text.cycles c.run.new.self.cycles c.args.to _ c.run.new.lines.items c.as_bytes.result.now c.clear.ensures.items c.in_ok-run.ensures.come c.as_bytes.ensures (c.in_ok-run.ensures.lines names s φ are run) in
     on_err_goes c.write_bytes.result (λ h. front_same _ _ _ _ same h) c.write_bytes.ensures.front

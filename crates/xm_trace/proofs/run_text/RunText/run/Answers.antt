@@ -1,6 +1,6 @@
 use Rattle.std.proofs.Common.{◌≡◌, ◌<◌, ◌+◌, ◌-◌, ◌∙◌, ◌++◌, ◌^◌, ℕ, List, ap, append_assoc, arith, sym}
 use Rattle.xm_tape.specs.Taped.{chosen, cycles_of, rows_of}
-use Rattle.xm_trace.proofs.Lines.{rounds_join}
+use Rattle.xm_trace.proofs.Cycles.{rounds_join}
 use Rattle.xm_trace.proofs.RoundAdded.{few_had}
 use Rattle.xm_trace.specs.Text.{round_lines}
 use Rattle.xm_trace.proofs.run_text.RunText.run.Goals as goal

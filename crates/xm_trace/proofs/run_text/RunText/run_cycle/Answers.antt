@@ -54,6 +54,6 @@ returns-clause-lines c names s φ are run =
     let below : t < cycles_of c.args.tape.now = omega (arith, same, c.requires.within) in
     let wires = c.step.new.frame.wires.items in
     let moved = moved_same net is_net c.args.tape.now t below s φ run c.args.state.now.cells.items c.at.result.now wires (λ p. c.requires.here.cells s φ run p ∙ ap (λ (i : ℕ). s i p) (sym same)) c.at.ensures c.step.ensures.only c.step.ensures.frame.whole in
-    line_made names (labelled_of c.args.texts.now) are φ now.cycles t net.channels _ c.args.lines.now.items c.put_line.new.lines.items (c.requires.labels ∙ c.requires.here.channels) same
+    line_made names (labelled_of c.args.texts.now) are φ now.cycles t net.channels _ c.args.lines.now.items c.put_line.new.self.items (c.requires.labels ∙ c.requires.here.channels) same
     (ap (λ (xs : List Wire). cycle_moves (signals_of xs) t (length xs)) c.as_slice.ensures ∙ moved ∙ ap (λ (i : ℕ). cycle_moves (φ i) i net.channels) same)
     c.put_line.ensures.items
