@@ -338,6 +338,21 @@ fn rounds_make_the_whole_text(rt: HostRuntime) {
     assert!(rt; document.is_ok_and(|document| rounds_write_it(alloc, document)));
 }
 
+fn writes_long_names(alloc: Global) -> bool {
+    match (
+        wide(alloc, None),
+        Text::from_bytes(alloc, LONG_NAMES.as_bytes()),
+    ) {
+        (Ok(mut out), Ok(document)) => writes(alloc, document, &mut out, LONG_NAMES_TEXT.as_bytes()),
+        _ => false,
+    }
+}
+
+#[test]
+fn names_of_sixteen_bytes_and_more_are_written(rt: HostRuntime) {
+    assert!(rt; writes_long_names(rt.alloc()));
+}
+
 /// 64 spaces.
 const SPACES: &[u8] = b"                                                                ";
 
