@@ -134,7 +134,7 @@ module _ (φ : ℕ → Signals) (n from k cycles t : ℕ) (below : k < cycles) (
 
 -- ---- sums
 
-sum-append : (xs ys : List Move) (c d : ℕ) → sum_in (xs ++ ys) c d ≡ sum_in xs c d + sum_in ys c d
+pub sum-append : (xs ys : List Move) (c d : ℕ) → sum_in (xs ++ ys) c d ≡ sum_in xs c d + sum_in ys c d
 sum-append [] ys c d = omega arith
 sum-append (x ∷ xs) ys c d = let rest = sum-append xs ys c d in omega (arith, rest)
 
