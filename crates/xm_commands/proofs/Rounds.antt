@@ -1,5 +1,5 @@
 -- The lines of the rounds of a run, joined.
-use Rattle.std.proofs.Common.{◌≡◌, ◌+◌, ◌-◌, ◌≤◌, ◌++◌, ◌∙◌, ℕ, List, ap, ap₂, arith, refl, sym}
+use Rattle.std.proofs.Common.{◌≡◌, ◌-◌, ◌≤◌, ◌++◌, ◌∙◌, ℕ, List, ap, ap₂, arith, refl, sym}
 use Rattle.xm_model.specs.Naming.{Naming}
 use Rattle.xm_model.specs.Signals.{Signals}
 use Rattle.xm_trace.specs.Lemmas.Joining.{lines_joined}

@@ -23,7 +23,8 @@ term_text names pairs entry =
 -- the terms in the order of columns, and the constant
 abbrev pub invariant_line : Naming → List (ℕ × ℕ) → Lemma → List ℕ
 invariant_line names pairs it =
-    line (codes "inv" ++ flat_map (term_text names pairs) it.row.entries ++ codes " = " ++ signed_decimal it.row.constant)
+    line (codes "inv" ++ flat_map (term_text names pairs) it.row.entries ++ codes " = "
+    ++ signed_decimal it.row.constant)
 
 abbrev pub invariant_lines : Naming → Designed → List Lemma → List ℕ
 invariant_lines names it lemmas =

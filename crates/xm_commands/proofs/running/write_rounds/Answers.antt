@@ -1,4 +1,4 @@
-use Rattle.std.proofs.Common.{◌≡◌, ◌+◌, ◌-◌, ◌++◌, ◌∙◌, ℕ, List, ap, ap₂, arith, refl, sym}
+use Rattle.std.proofs.Common.{◌≡◌, ◌+◌, ◌-◌, ◌++◌, ◌∙◌, ℕ, List, ap, arith, refl, sym}
 use Rattle.std.proofs.lemmas.List.{append-nil}
 use Rattle.xm_commands.proofs.Fronts.{appends_nothing, appends_same, front_more, front_of, on_err, on_err_goes, on_ok_goes}
 use Rattle.xm_commands.proofs.Rounds.{ended, joined}
@@ -6,7 +6,7 @@ use Rattle.xm_commands.proofs.running.write_rounds.Goals as goal
 use Rattle.xm_io.specs.Lemmas.Appending.{Appends-then}
 use Rattle.xm_model.specs.Naming.{naming_of}
 use Rattle.xm_tape.specs.Taped.{cycles_of}
-use Rattle.xm_trace.specs.Lemmas.Joining.{lines_joined, rest_of}
+use Rattle.xm_trace.specs.Lemmas.Joining.{rest_of}
 use Rattle.xm_trace.specs.Text.{end_text, round_lines}
 
 pub loop-run-init : goal.loop-run-init
