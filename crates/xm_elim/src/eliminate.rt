@@ -59,7 +59,8 @@ pub fn eliminate(alloc: Global, flow: &[Row], moves: u32, counts: u32) -> Result
     requires few { length flow.now < 2 ^ 20 }
     requires narrow { moves + counts < 2 ^ 20 }
     requires within { All (λ r. All (λ e. e.column < moves + counts) r.entries) flow.now }
-    ensures ok { IfOk result (λ it. Reaches moves (begun_from (moves + counts) 0 flow.now) (moves + counts) it.rows.items) }
+    ensures ok { IfOk result (λ it.
+        Reaches moves (begun_from (moves + counts) 0 flow.now) (moves + counts) it.rows.items) }
     ensures covers { IfOk result (λ it. Covers it.rows.items (columns_of it.columns.items)) }
     ensures whole { IfOk result (λ it. length it.columns.items ≡ moves + counts) }
     ensures overflow { IfErr result (OnOverflow (MeetsOverflow moves counts flow.now)) }

@@ -60,7 +60,8 @@ fn size(it: &Working) -> usize
 fn better(rows: &[Working], best: Option<u32>, p: u32, column: u32) -> Option<u32>
     requires within { p < length rows.now }
     requires place { IsPlace (length rows.now) best }
-    ensures best { (places : Items ℕ) → IsBest rows.now column places best → All (λ j. j < p) places → IsBest rows.now column (places ++ p ∷ []) result }
+    ensures best { (places : Items ℕ) → IsBest rows.now column places best → All (λ j. j < p) places →
+        IsBest rows.now column (places ++ p ∷ []) result }
     ensures place { IsPlace (length rows.now) result }
 {
     let next = &rows[p as usize];
