@@ -1,6 +1,6 @@
 //! Places in rising order, each once.
 
-ghost use Rattle.std.specs.Prelude.{◌≡◌, ◌<◌, ◌^◌, All, IfOk, IsTrue};
+ghost use Rattle.std.specs.Prelude.{◌≡◌, ◌<◌, ◌^◌, All, IfOk, IsTrue, OnOk};
 ghost use Rattle.std.specs.List.Sorted.{IsNonDecreasing, IsPermutation};
 ghost use Rattle.xm_colours.specs.Family.{Rises};
 ghost use Rattle.xm_elim.specs.Inner.Columns.{IsRisingOf};
@@ -39,15 +39,16 @@ fn is_rising(places: &[u32]) -> bool
     true
 }
 
-/// The places in rising order, each once. Most lists have them so.
-pub fn in_order(alloc: Global, mut places: List<u32>) -> Result<List<u32>, OutOfMemory>
-    requires { All (λ p. p < 2 ^ 20) places.items }
-    ensures { IfOk result (λ out. IsRisingOf places.items out.items) }
+/// Puts the places in rising order, each once. Most lists have them so.
+pub fn in_order(alloc: Global, places: &mut List<u32>) -> Result<(), OutOfMemory>
+    requires { All (λ p. p < 2 ^ 20) places.old.items }
+    ensures { OnOk result (IsRisingOf places.old.items places.new.items) }
 {
     if is_rising(places.as_slice()) {
-        return Ok(places);
+        return Ok(());
     }
     places.as_mut_slice().sort_unstable();
     let once = each_once(alloc, places.as_slice())?;
-    Ok(once)
+    *places = once;
+    Ok(())
 }
