@@ -12,8 +12,8 @@ use crate::work::{Working, is_candidate, is_taken};
 use std::alloc::Global;
 use xm_model::{List, OutOfMemory};
 
-/// Puts into the list the places among the given ones of rows that work and have an entry in the column. It looks no further into each row
-/// than to the column.
+/// Puts into the list the places among the given ones of rows that work and have an entry in the column. It looks no
+/// further into each row than to the column.
 fn taken_of(
     rows: &[Working],
     given: &[u32],
