@@ -33,9 +33,12 @@ fn is_pivot_of(it: Status, column: u32) -> bool
 /// The row that was the pivot of a column of packets, if there is one, by the places that are noted for it.
 fn pivot_at(rows: &[Working], noted: &[u32], column: u32) -> Option<u32>
     requires within { All (λ p. p < length rows.now) noted.now }
-    requires covers { (i : ℕ) (w : Working) → slice_get rows.now i ≡ Some w → w.status ≡ status.Pivot column → IsIn noted.now i }
-    ensures none { IfNone result ((i : ℕ) (w : Working) → slice_get rows.now i ≡ Some w → w.status ≢ status.Pivot column) }
-    ensures some { IfSome result (λ i. (w : Working) × ((slice_get rows.now i ≡ Some w) × (w.status ≡ status.Pivot column))) }
+    requires covers { (i : ℕ) (w : Working) → slice_get rows.now i ≡ Some w → w.status ≡ status.Pivot column →
+        IsIn noted.now i }
+    ensures none { IfNone result ((i : ℕ) (w : Working) → slice_get rows.now i ≡ Some w →
+        w.status ≢ status.Pivot column) }
+    ensures some { IfSome result (λ i. (w : Working) × ((slice_get rows.now i ≡ Some w)
+        × (w.status ≡ status.Pivot column))) }
     ensures within { IfSome result (λ i. i < length rows.now) }
 {
     for p in noted {
@@ -107,7 +110,8 @@ pub fn gather(
         → Leads moves (moves + counts) k w.row }
     requires bounded { (j : ℕ) (w : Working) (k : ℕ) → slice_get rows.now j ≡ Some w
         → moves + counts + length flow.now ≤ k → coefficient w.row.entries k ≡ pos 0 }
-    ensures { IfOk result (λ it. AreGathered moves counts flow.now rows.now counts (map lemma_of it.lemmas.items) it.failed) }
+    ensures { IfOk result (λ it.
+        AreGathered moves counts flow.now rows.now counts (map lemma_of it.lemmas.items) it.failed) }
 {
     let mut lemmas = List::new(alloc);
     let mut failed = None;

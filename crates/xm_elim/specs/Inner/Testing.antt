@@ -31,7 +31,8 @@ pub record AreAdded (n : ℕ) (factor : ℤ) (entries : List Entry) (slots next 
 -- a product of the factor with an entry, or a sum with it, leaves 128 bits
 abbrev pub EntriesLeave : ℕ → ℤ → List Entry → List Slot → Type 0
 EntriesLeave n factor entries slots =
-    (k : ℕ) × ((¬ Fits128 (factor *ℤ coefficient entries k)) ⊎ (¬ Fits128 (sum_at n slots k +ℤ (factor *ℤ coefficient entries k))))
+    (k : ℕ) × ((¬ Fits128 (factor *ℤ coefficient entries k))
+    ⊎ (¬ Fits128 (sum_at n slots k +ℤ (factor *ℤ coefficient entries k))))
 
 -- each product of a factor with its flow row, and each sum so far, fits
 pub record PartsFit (flow : List SparseRow) (parts : List Part) : Type 0 where
@@ -41,7 +42,8 @@ pub record PartsFit (flow : List SparseRow) (parts : List Part) : Type 0 where
   pub sum_constants : (n : ℕ) → Fits128 (weighed_constant flow (take n parts))
 
 -- a part is added, and all of it fits
-pub record IsPartAdded (n : ℕ) (flow : List SparseRow) (part : Part) (total : ℤ) (slots next : List Slot) (sum : ℤ) : Type 0 where
+pub record IsPartAdded
+    (n : ℕ) (flow : List SparseRow) (part : Part) (total : ℤ) (slots next : List Slot) (sum : ℤ) : Type 0 where
   pub entries : AreAdded n part.factor (flow_at flow part.flow).entries slots next
   pub product : Fits128 (part.factor *ℤ (flow_at flow part.flow).constant)
   pub constant : sum ≡ total +ℤ (part.factor *ℤ (flow_at flow part.flow).constant)
