@@ -4,7 +4,7 @@ ghost use Rattle.std.specs.Prelude.{◌≡◌, ◌≢◌, ◌↔◌, ◌<◌, �
 ghost use Rattle.xm_elim.specs.Inner.Columns.{Covers, columns_of};
 ghost use Rattle.xm_elim.specs.Inner.Places as spec;
 ghost use Rattle.xm_elim.specs.Inner.Places.{AreGathered, Leads};
-ghost use Rattle.xm_elim.specs.Inner.Testing.{AreBelow};
+ghost use Rattle.xm_flow.specs.Slots.{AreBelow};
 ghost use Rattle.xm_elim.specs.Basis.{AreOver};
 ghost use Rattle.xm_elim.specs.Elimination.{IsParted};
 ghost use Rattle.xm_elim.specs.declared.work.Status.TheVariants as status;
@@ -14,10 +14,9 @@ ghost use Rattle.xm_model.specs.Membership.{IsIn};
 ghost use Rattle.xm_rows.specs.Row.{coefficient};
 
 use crate::part::part;
-use crate::testing::{Slot, fits, slots};
 use crate::work::{Status, Working};
 use std::alloc::Global;
-use xm_flow::Invariant;
+use xm_flow::{Invariant, Slot, test_fits, test_slots};
 use xm_model::{List, OutOfMemory};
 use xm_rows::Row;
 
@@ -89,7 +88,7 @@ fn tested_lemma(
 {
     let _row = row.entries();
     let lemma = part(alloc, row, moves, counts, column)?;
-    let fits = fits(slots, n, flow, &lemma);
+    let fits = test_fits(slots, n, flow, &lemma);
     Ok((lemma, fits))
 }
 
@@ -115,7 +114,7 @@ pub fn gather(
 {
     let mut lemmas = List::new(alloc);
     let mut failed = None;
-    let mut held = slots(alloc, moves + counts)?;
+    let mut held = test_slots(alloc, moves + counts)?;
     let slots = held.as_mut_slice();
     for n in 0..counts {
         let column = moves + n;

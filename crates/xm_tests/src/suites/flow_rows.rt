@@ -24,7 +24,7 @@ fn sum<'a>(entries: &'a [(u32, i128)], constant: i128) -> Wanted<'a> {
 }
 
 /// A fork, a queue on each of its sides, and a join.
-const FORK_JOIN: [Piece; 6] = [
+pub const FORK_JOIN: [Piece; 6] = [
     Piece::Source(0, &[X], SourceMode::Keep),
     Piece::Fork(0, 1, 2, &[X], &[X]),
     Piece::Queue(1, 3, 2, &[]),
@@ -34,7 +34,7 @@ const FORK_JOIN: [Piece; 6] = [
 ];
 
 /// Two credits that go round, and packets that go with one each.
-const CREDITS: [Piece; 6] = [
+pub const CREDITS: [Piece; 6] = [
     Piece::Source(0, &[X], SourceMode::Eager),
     Piece::Join(0, 1, 2, Side::A),
     Piece::Queue(2, 3, 2, &[]),
@@ -44,7 +44,7 @@ const CREDITS: [Piece; 6] = [
 ];
 
 /// A queue that feeds itself, with one packet.
-const SELF_FED: [Piece; 1] = [Piece::Queue(0, 0, 2, &[X])];
+pub const SELF_FED: [Piece; 1] = [Piece::Queue(0, 0, 2, &[X])];
 
 /// A switch of two colours whose sides end at sinks.
 const SWITCH: [Piece; 4] = [

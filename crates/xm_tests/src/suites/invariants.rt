@@ -5,7 +5,8 @@ ghost use Rattle.xm_elim.specs.Basis.{AreOver, IsConsistent};
 ghost use Rattle.xm_flow.specs.Holding.{IsFlowOf};
 ghost use Rattle.xm_tests.specs.Inner.Over.{IsOver};
 
-use super::nets::{Piece, ROW, X, design_of};
+use super::flow_rows::{CREDITS, FORK_JOIN, SELF_FED};
+use super::nets::{Piece, ROW, design_of};
 use super::rows::{EDGE, HALF, RowParts, at, is_row, of, row_of};
 use std::alloc::Global;
 use std::process::Abort;
@@ -13,31 +14,8 @@ use std::test::Fail;
 use xm_design::Design;
 use xm_elim::{ElimFault, invariants, lemmas_of};
 use xm_flow::{FlowRows, Invariant, flow};
-use xm_model::{List, OutOfMemory, Side, SinkMode, SourceMode};
+use xm_model::{List, OutOfMemory};
 use xm_rows::Row;
-
-/// A fork, two queues and a join.
-const TWO_WAYS: [Piece; 6] = [
-    Piece::Source(0, &[X], SourceMode::Keep),
-    Piece::Fork(0, 1, 2, &[X], &[X]),
-    Piece::Queue(1, 3, 2, &[]),
-    Piece::Queue(2, 4, 2, &[]),
-    Piece::Join(3, 4, 5, Side::A),
-    Piece::Sink(5, SinkMode::Keep),
-];
-
-/// Packets go round a join and a fork, two of them at first.
-const CREDITS: [Piece; 6] = [
-    Piece::Source(0, &[X], SourceMode::Keep),
-    Piece::Join(0, 1, 2, Side::A),
-    Piece::Queue(2, 3, 2, &[]),
-    Piece::Fork(3, 4, 5, &[X], &[X]),
-    Piece::Sink(4, SinkMode::Keep),
-    Piece::Queue(5, 1, 2, &[X, X]),
-];
-
-/// A queue that feeds itself.
-const RING: [Piece; 1] = [Piece::Queue(0, 0, 2, &[X])];
 
 fn are(lemmas: &[Invariant], wanted: Option<RowParts>) -> bool {
     match (lemmas, wanted) {
@@ -79,7 +57,7 @@ fn a_single_queue_has_no_invariant(rt: HostRuntime) {
 #[test]
 fn two_queues_between_a_fork_and_a_join_hold_the_same(rt: HostRuntime) {
     let wanted = [at(0, 1), at(1, -1)];
-    assert!(rt; has_only(rt.alloc(), &TWO_WAYS, 6, Some(of(&wanted, 0))));
+    assert!(rt; has_only(rt.alloc(), &FORK_JOIN, 6, Some(of(&wanted, 0))));
 }
 
 #[test]
@@ -90,7 +68,7 @@ fn packets_round_a_join_and_a_fork_stay_two(rt: HostRuntime) {
 
 #[test]
 fn a_queue_that_feeds_itself_keeps_its_packet(rt: HostRuntime) {
-    assert!(rt; has_only(rt.alloc(), &RING, 1, Some(of(&[at(0, 1)], 1))));
+    assert!(rt; has_only(rt.alloc(), &SELF_FED, 1, Some(of(&[at(0, 1)], 1))));
 }
 
 /// Whether the row's columns are below the number, and its constant is 0.

@@ -10,8 +10,9 @@ use Rattle.xm_flow.specs.declared.invariant.Part.{Part}
 use Rattle.xm_rows.specs.Lemmas.Entries.{coefficient-append, coefficient_absent, first_coefficient, later_coefficient, other_column, own_column, rising_above, rising_tail}
 use Rattle.xm_rows.specs.Row.{Fits128, IsRising, SparseRow, coefficient}
 use Rattle.xm_rows.specs.declared.row.Entry.{Entry}
-use Rattle.xm_elim.specs.Inner.Testing.{AreAdded, AreBelow, AreWeighed, EntriesLeave, IsAdded, IsPartAdded, IsScaled, PartLeaves, PartsFit, sum_at}
-use Rattle.xm_elim.specs.declared.testing.Slot.{Slot}
+use Rattle.xm_flow.specs.Inner.Testing.{AreAdded, AreWeighed, EntriesLeave, IsAdded, IsPartAdded, IsScaled, PartLeaves, PartsFit, sum_at}
+use Rattle.xm_flow.specs.Slots.{AreBelow}
+use Rattle.xm_flow.specs.declared.testing.Slot.{Slot}
 
 -- ---- entries in rising columns
 

@@ -2,8 +2,8 @@ use Rattle.std.proofs.Common.{inr, get_or, rules, SFits, pos}
 use Rattle.std.specs.Int.{w128}
 use Rattle.std.proofs.lemmas.Int.{to_z-of_z}
 use Rattle.xm_rows.specs.declared.row.Entry.{Entry}
-use Rattle.xm_elim.proofs.Adding.{added_all, added_more, added_none, not_true, product_leaves, sum_leaves}
-use Rattle.xm_elim.proofs.testing.add_entries.Goals as goal
+use Rattle.xm_flow.proofs.Adding.{added_all, added_more, added_none, not_true, product_leaves, sum_leaves}
+use Rattle.xm_flow.proofs.testing.add_entries.Goals as goal
 
 pub loop-entry-init : goal.loop-entry-init
 loop-entry-init c =

@@ -4,8 +4,8 @@ use Rattle.std.proofs.lemmas.Int.{to_z-of_z}
 use Rattle.std.proofs.lemmas.List.Elements.{All-more}
 use Rattle.xm_rows.specs.Row.{Fits128}
 use Rattle.xm_rows.specs.declared.row.Entry.{Entry}
-use Rattle.xm_elim.proofs.Adding.{not_true, scaled_all, scaled_not}
-use Rattle.xm_elim.proofs.testing.scales.Goals as goal
+use Rattle.xm_flow.proofs.Adding.{not_true, scaled_all, scaled_not}
+use Rattle.xm_flow.proofs.testing.scales.Goals as goal
 
 pub loop-entry-preserved : goal.loop-entry-preserved
 loop-entry-preserved c =

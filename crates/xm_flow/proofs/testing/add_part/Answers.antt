@@ -1,8 +1,8 @@
 use Rattle.std.proofs.Common.{rules, SFits}
 use Rattle.std.specs.Int.{w128}
 use Rattle.std.proofs.lemmas.Int.{to_z-of_z}
-use Rattle.xm_elim.proofs.Adding.{part_added}
-use Rattle.xm_elim.proofs.testing.add_part.Goals as goal
+use Rattle.xm_flow.proofs.Adding.{part_added}
+use Rattle.xm_flow.proofs.testing.add_part.Goals as goal
 
 pub returns-clause-added : goal.returns-clause-added
 returns-clause-added c =

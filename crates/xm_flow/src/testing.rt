@@ -1,12 +1,13 @@
 //! Whether the test that flow rows make a lemma stays within 128 bits.
 
 ghost use Rattle.std.specs.Prelude.{◌≡◌, ◌<◌, ◌⊎◌, ◌↔◌, ◌+◌, ◌+ℤ◌, ◌*ℤ◌, All, IfOk, IfSome, IfNone, IsTrue, length};
-ghost use Rattle.xm_elim.specs.Inner.Testing.{AreAdded, AreBelow, EntriesLeave, IsAdded, IsPartAdded, IsScaled, PartLeaves, PartsFit, sum_at, sum_in};
+ghost use Rattle.xm_flow.specs.Inner.Testing.{AreAdded, EntriesLeave, IsAdded, IsPartAdded, IsScaled, PartLeaves, PartsFit, sum_at, sum_in};
+ghost use Rattle.xm_flow.specs.Slots.{AreBelow};
 ghost use Rattle.xm_flow.specs.ValidLemma.{TestFits, lemma_of};
 ghost use Rattle.xm_rows.specs.Row.{Fits128, IsRising, IsRow};
 
+use crate::invariant::{Invariant, Part};
 use std::alloc::Global;
-use xm_flow::{Invariant, Part};
 use xm_model::{List, OutOfMemory};
 use xm_rows::{Entry, Row, product, sum};
 
@@ -123,7 +124,7 @@ fn scales(it: &Invariant) -> bool
 
 /// Whether the test that the parts make lemma number `n` stays within 128 bits. Before it the slots are those of
 /// earlier lemmas, one for each column of the flow rows.
-pub fn fits(slots: &mut [Slot], n: u32, flow: &[Row], it: &Invariant) -> bool
+pub fn test_fits(slots: &mut [Slot], n: u32, flow: &[Row], it: &Invariant) -> bool
     requires places { All (λ p. p.flow < length flow.now) it.now.parts.items }
     requires rows { All IsRow flow.now }
     requires within { All (λ r. All (λ e. e.column < length slots.old) r.entries) flow.now }
@@ -138,7 +139,7 @@ pub fn fits(slots: &mut [Slot], n: u32, flow: &[Row], it: &Invariant) -> bool
 }
 
 /// A slot for each column.
-pub fn slots(alloc: Global, columns: u32) -> Result<List<Slot>, OutOfMemory>
+pub fn test_slots(alloc: Global, columns: u32) -> Result<List<Slot>, OutOfMemory>
     ensures whole { IfOk result (λ slots. length slots.items ≡ columns) }
     ensures below { IfOk result (λ slots. AreBelow 1 slots.items) }
 {

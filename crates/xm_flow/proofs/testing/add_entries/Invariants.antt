@@ -1,6 +1,7 @@
 use Rattle.std.proofs.Common.{◌+◌, take}
-use Rattle.xm_elim.specs.Inner.Testing.{AreAdded, AreBelow}
-use Rattle.xm_elim.proofs.testing.add_entries.Given as goal
+use Rattle.xm_flow.specs.Inner.Testing.{AreAdded}
+use Rattle.xm_flow.specs.Slots.{AreBelow}
+use Rattle.xm_flow.proofs.testing.add_entries.Given as goal
 
 abbrev pub invariant-loop-entry : goal.invariant-loop-entry
 invariant-loop-entry l = record {

@@ -1,10 +1,10 @@
 -- Inner: sums of flow rows so far, column by column, as the test of a lemma forms them. No public clause cites these.
-use Rattle.std.specs.Prelude.{◌≡◌, ◌≢◌, ◌⊎◌, ℕ, ◌<◌, List, cond, nat_eq, slice_index_or, take, ℤ, pos, ◌+ℤ◌, ◌*ℤ◌, All}
+use Rattle.std.specs.Prelude.{◌≡◌, ◌≢◌, ◌⊎◌, ℕ, List, cond, nat_eq, slice_index_or, take, ℤ, pos, ◌+ℤ◌, ◌*ℤ◌, All}
 use Rattle.xm_flow.specs.ValidLemma.{Lemma, flow_at, weighed, weighed_constant}
 use Rattle.xm_flow.specs.declared.invariant.Part.{Part}
 use Rattle.xm_rows.specs.Row.{Fits128, SparseRow, coefficient}
 use Rattle.xm_rows.specs.declared.row.Entry.{Entry}
-use Rattle.xm_elim.specs.declared.testing.Slot.{Slot}
+use Rattle.xm_flow.specs.declared.testing.Slot.{Slot}
 
 -- what a slot holds for lemma number n: nothing where it is another's
 abbrev pub sum_in : ℕ → Slot → ℤ
@@ -12,10 +12,6 @@ sum_in n s = cond (nat_eq s.lemma n) s.sum (pos 0)
 
 abbrev pub sum_at : ℕ → List Slot → ℕ → ℤ
 sum_at n slots k = sum_in n (slice_index_or slots k (record { lemma = 0; sum = pos 0 }))
-
--- the slots are those of lemmas with numbers below n
-abbrev pub AreBelow : ℕ → List Slot → Type 0
-AreBelow n slots = All (λ s. s.lemma < n) slots
 
 -- a term is added in the column
 pub record IsAdded (n column : ℕ) (term : ℤ) (slots next : List Slot) : Type 0 where

@@ -3,9 +3,9 @@ use Rattle.std.specs.Int.{w128}
 use Rattle.std.proofs.lemmas.Int.{to_z-of_z}
 use Rattle.std.proofs.lemmas.List.Elements.{All-weaker}
 use Rattle.xm_flow.specs.declared.invariant.Part.{Part}
-use Rattle.xm_elim.specs.declared.testing.Slot.{Slot}
-use Rattle.xm_elim.proofs.Adding.{part_leaves, weighed_all, weighed_more, weighed_none}
-use Rattle.xm_elim.proofs.testing.weighs.Goals as goal
+use Rattle.xm_flow.specs.declared.testing.Slot.{Slot}
+use Rattle.xm_flow.proofs.Adding.{part_leaves, weighed_all, weighed_more, weighed_none}
+use Rattle.xm_flow.proofs.testing.weighs.Goals as goal
 
 pub loop-part-init : goal.loop-part-init
 loop-part-init c = record {
