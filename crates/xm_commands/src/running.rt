@@ -20,7 +20,7 @@ use xm_design::Design;
 use xm_io::Sink;
 use xm_model::{Names, State};
 use xm_step::reset;
-use xm_tape::Tape;
+use xm_tape::{Rows, Tape};
 use xm_trace::{Labels, Lines, RunText, rounds_join};
 
 /// A run that was begun: its state and its text after so many cycles, what its lines are made of, and the lines
@@ -56,23 +56,26 @@ fn round_end(channels: u32, from: u32, cycles: u32) -> u32
 fn write_round<K: Sink>(
     alloc: Global,
     design: &Design,
-    tape: &Tape,
+    rows: &mut Rows<'_>,
     run: &mut RunSoFar,
     to: u32,
     out: &mut K,
 ) -> Result<(), Refusal>
-    requires underway { IsBegun design.now tape.now run.old }
+    requires underway { IsBegun design.now rows.old.tape run.old }
+    requires row { rows.old.cycle ≡ run.old.text.cycles }
     requires later { run.old.text.cycles < to }
-    requires within { to ≤ cycles_of tape.now }
-    ensures underway { OnOk result (IsBegun design.now tape.now run.new) }
+    requires within { to ≤ cycles_of rows.old.tape }
+    ensures underway { OnOk result (IsBegun design.now rows.old.tape run.new) }
+    ensures tape { OnOk result (rows.new.tape ≡ rows.old.tape) }
+    ensures row { OnOk result (rows.new.cycle ≡ run.new.text.cycles) }
     ensures labels { run.new.labels ≡ run.old.labels }
     ensures come { OnOk result (run.new.text.cycles ≡ to) }
     ensures whole { (names : Naming) (s : ℕ → ℕ → Content) (φ : ℕ → Signals)
-        → AreLabelsOf names run.old.labels → IsRunOf design.now.net tape.now s φ
+        → AreLabelsOf names run.old.labels → IsRunOf design.now.net rows.old.tape s φ
         → OnOk result (Appends (K.held out.old) (K.held out.new)
         (round_lines names φ run.old.text.cycles (to - run.old.text.cycles))) }
     ensures front { (names : Naming) (s : ℕ → ℕ → Content) (φ : ℕ → Signals)
-        → AreLabelsOf names run.old.labels → IsRunOf design.now.net tape.now s φ
+        → AreLabelsOf names run.old.labels → IsRunOf design.now.net rows.old.tape s φ
         → OnErr result (AppendsFront (K.held out.old) (K.held out.new)
         (round_lines names φ run.old.text.cycles (to - run.old.text.cycles))) }
     ensures unharmed { OnOk result (K.faults out.new ≡ K.faults out.old) }
@@ -83,7 +86,7 @@ fn write_round<K: Sink>(
         alloc,
         design,
         &run.labels,
-        tape,
+        rows,
         &mut run.state,
         to,
         &mut run.lines,
@@ -117,9 +120,10 @@ fn write_rounds<K: Sink>(
     design.net().is_net();
     let channels = design.net().channels();
     let cycles = tape.cycles();
+    let mut rows = tape.rows(alloc, 0)?;
     while run.text.cycles() < cycles {
         let to = round_end(channels, run.text.cycles(), cycles);
-        write_round(alloc, design, tape, run, to, out)?;
+        write_round(alloc, design, &mut rows, run, to, out)?;
     }
     let end = run.text.end(alloc, names)?;
     write_text(out, &end)

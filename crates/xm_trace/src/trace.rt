@@ -77,8 +77,8 @@ fn note_moves(moves: &mut List<Move>, cycle: u32, wires: &[Wire])
 
 /// The moves of the cycles from `from` to before `to`, and the state past them. A cycle takes time that is
 /// linear in the primitives, the channels and the packets of queues, and no memory: room for one move on
-/// each channel in each cycle, 12 bytes for one, and for one frame is taken first, so a refusal leaves the
-/// state. No room of the state changes.
+/// each channel in each cycle, 12 bytes for one, for one frame and for one row is taken first, so a refusal leaves
+/// the state. No room of the state changes. Of a drawn tape the draws before `from` are passed over first.
 pub fn run_round(
     alloc: Global,
     design: &Design,
@@ -104,9 +104,11 @@ pub fn run_round(
     let mut moves = List::new(alloc);
     moves.reserve((to - from) * channels)?;
     let mut frame = blank(alloc, design)?;
+    let mut rows = tape.rows(alloc, from)?;
     for t in from..to {
-        step(design, state, tape.at(t), &mut frame);
+        step(design, state, rows.row(), &mut frame);
         note_moves(&mut moves, t, frame.wires.as_slice());
+        rows.advance();
     }
     Ok(Trace {
         cycles: to - from,

@@ -343,7 +343,12 @@ fn writes_long_names(alloc: Global) -> bool {
         wide(alloc, None),
         Text::from_bytes(alloc, LONG_NAMES.as_bytes()),
     ) {
-        (Ok(mut out), Ok(document)) => writes(alloc, document, &mut out, LONG_NAMES_TEXT.as_bytes()),
+        (Ok(mut out), Ok(document)) => writes(
+            alloc,
+            document,
+            &mut out,
+            LONG_NAMES_TEXT.as_bytes(),
+        ),
         _ => false,
     }
 }

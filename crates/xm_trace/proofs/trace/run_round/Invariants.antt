@@ -10,6 +10,8 @@ invariant-loop-t l = record {
   rooms : SameRooms l.design.net.prims l.initial.state.cells.items l.state.cells.items;
   cells_room : l.state.cells.room ≡ l.initial.state.cells.room;
   wires : length l.frame.wires.items ≡ l.design.net.channels;
+  tape : l.rows.tape ≡ l.tape;
+  row : l.rows.cycle ≡ l.t;
   room : (l.to - l.from) * l.design.net.channels ≤ l.moves.room;
   few : length l.moves.items ≤ (l.t - l.from) * l.design.net.channels;
   state : AreCellsAt l.design.net l.tape l.t l.state.cells.items;
