@@ -121,9 +121,9 @@ fn is_printed(alloc: Global, line: &str, document: &str, text: &str) -> bool {
     is_answered(alloc, line, document, SOUND, answer)
 }
 
-/// Words, a document, and the output. What is printed of the last three was made by a program that was
-/// written apart from this one.
-const OUTPUTS: [(&str, &str, &str); 5] = [
+/// Words, a document, and the output. What is printed of the last three runs was made by a program that was
+/// written apart from this one, and the invariants were worked out by hand.
+const OUTPUTS: [(&str, &str, &str); 10] = [
     (
         "run",
         STREAM,
@@ -137,6 +137,11 @@ const OUTPUTS: [(&str, &str, &str); 5] = [
     ("run", MERGE_BOTH_AT_FIRST, MERGE_BOTH_AT_FIRST_PRINTED),
     ("run", DRAWN_ROWS, DRAWN_ROWS_PRINTED),
     ("run", ALL_MARKS, ALL_MARKS_PRINTED),
+    ("inv", FORK_JOIN, "inv 1*Qd.req -1*Qt.req = 0\nend 1\n"),
+    ("inv", NO_TAPE, "end 0\n"),
+    ("inv", CREDITS, "inv 1*Qd.req 1*Qc.req = 2\nend 1\n"),
+    ("inv", SELF_FED, "inv 1*Q.x = 1\nend 1\n"),
+    ("inv", UNSENT, "end 0\n"),
 ];
 
 fn all_are_printed(alloc: Global) -> bool {
@@ -160,11 +165,12 @@ fn outputs_are_printed(rt: HostRuntime) {
 }
 
 /// Words, a document, the status, and the line of error.
-const REFUSALS: [(&str, &str, u8, &str); 10] = [
+const REFUSALS: [(&str, &str, u8, &str); 11] = [
     ("", STREAM, 2, "words\n"),
     ("sim", STREAM, 2, "words\n"),
     ("check x", STREAM, 2, "words\n"),
     ("run --", STREAM, 2, "words\n"),
+    ("inv x", STREAM, 2, "words\n"),
     ("run", CUT, 3, "document: not JSON\n"),
     (
         "check",

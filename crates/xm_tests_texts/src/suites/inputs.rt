@@ -152,3 +152,31 @@ pub const ALL_MARKS_PRINTED: &str = concat!(
     "sum c0.k10 1\nsum c0.k9 1\nsum c0.k8 1\nsum c0.k7 1\nsum c0.k6 1\nsum c0.k5 1\n",
     "sum c0.k4 1\nsum c0.k3 1\nsum c0.k2 1\nsum c0.k1 1\nsum c0.k0 1\nend 36\n"
 );
+
+/// A fork, a queue on each of its sides, and a join.
+pub const FORK_JOIN: &str =
+    r#"{"version":1,"colours":["req"],"net":[{"kind":"source","name":"S","out":"c0","colours":["req"]},
+    {"kind":"fork","name":"F","in":"c0","a":"c1","b":"c2"},
+    {"kind":"queue","name":"Qd","in":"c1","out":"c3","capacity":2},
+    {"kind":"queue","name":"Qt","in":"c2","out":"c4","capacity":2},
+    {"kind":"join","name":"J","a":"c3","b":"c4","out":"c5","pass":"a"},
+    {"kind":"sink","name":"K","in":"c5"}]}"#;
+
+/// Two credits that go round, and packets that go with one each.
+pub const CREDITS: &str = r#"{"version":2,"colours":["req"],"net":[
+    {"kind":"source","name":"S","out":"c0","colours":["req"],"mode":"eager"},
+    {"kind":"join","name":"J","a":"c0","b":"c5","out":"c1","pass":"a"},
+    {"kind":"queue","name":"Qd","in":"c1","out":"c2","capacity":2},
+    {"kind":"fork","name":"F","in":"c2","a":"c3","b":"c4"},
+    {"kind":"sink","name":"K","in":"c3"},
+    {"kind":"queue","name":"Qc","in":"c4","out":"c5","capacity":2,"initial":["req","req"]}]}"#;
+
+/// A queue that feeds itself, with one packet.
+pub const SELF_FED: &str = r#"{"version":2,"colours":["x"],"net":[
+    {"kind":"queue","name":"Q","in":"c0","out":"c0","capacity":2,"initial":["x"]}]}"#;
+
+/// A queue whose first packet has a colour that no source sends.
+pub const UNSENT: &str = r#"{"version":2,"colours":["x","y"],"net":[
+    {"kind":"source","name":"S","out":"c0","colours":["x"]},
+    {"kind":"queue","name":"Q","in":"c0","out":"c1","capacity":2,"initial":["y"]},
+    {"kind":"sink","name":"K","in":"c1"}]}"#;
