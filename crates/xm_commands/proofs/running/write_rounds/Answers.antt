@@ -33,7 +33,7 @@ returns-in_err-write_round-clause-front g c = λ text is.
     let rest = rest_of c.rounds_join.ensures names is.frames to n (omega (arith, c.round_end-to.ensures.within, c.cycles-cycles.ensures.number)) in
     let lines : List ℕ = round_lines names is.frames (0 + to) (n - to) ++ end_text names is.frames n in
     on_err c.from_residual-in_err-write_round.result
-    (front_more (g.K.Sink.held c.args.out.now) (g.K.Sink.held c.loop-run.out) (g.K.Sink.held c.write_round.new.out) _ _ _ text (is.same ∙ rest ∙ ap (λ (x : List ℕ). x ++ lines) (sym same)) (c.loop-run.invariant.written is.states is.frames is.run) (c.in_err-write_round.ensures.front names is.states is.frames (are_still _ _ _ c.loop-run.invariant.labels c.requires.labels) (subst (λ (tape : Taped). IsRunOf c.args.design.now.net tape is.states is.frames) (sym c.loop-run.invariant.tape) is.run)))
+    (front_more (g.K.Sink.held c.args.out.now) (g.K.Sink.held c.loop-run.out) (g.K.Sink.held c.write_round.new.out) _ _ _ text (is.same ∙ rest ∙ ap (λ (x : List ℕ). x ++ lines) (sym same)) (c.loop-run.invariant.written is.states is.frames is.run) (c.in_err-write_round.ensures.front names is.states is.frames (are_still _ _ _ c.loop-run.invariant.labels c.requires.labels) (subst (λ (tape : Taped). IsRunOf c.args.evaluator.now.net tape is.states is.frames) (sym c.loop-run.invariant.tape) is.run)))
 
 pub loop-run-preserved : goal.loop-run-preserved
 loop-run-preserved g c =
@@ -44,7 +44,7 @@ loop-run-preserved g c =
     let before = c.loop-run.invariant in
     record {
       within = omega (arith, come, c.round_end-to.ensures.within);
-      underway = subst (λ (tape : Taped). IsBegun c.args.design.now tape c.write_round.new.run) before.tape c.in_ok-write_round.ensures.underway;
+      underway = subst (λ (tape : Taped). IsBegun c.args.evaluator.now tape c.write_round.new.run) before.tape c.in_ok-write_round.ensures.underway;
       tape = c.in_ok-write_round.ensures.tape ∙ before.tape;
       row = c.in_ok-write_round.ensures.row;
       labels = c.in_ok-write_round.ensures.labels ∙ before.labels;
@@ -52,7 +52,7 @@ loop-run-preserved g c =
       written = λ s φ run.
           let same = joined c.rounds_join.ensures names φ from to (omega (arith, c.round_end-to.ensures.later)) in
           appends_same (g.K.Sink.held c.args.out.now) (g.K.Sink.held c.write_round.new.out) _ _ (same ∙ ap (round_lines names φ 0) (sym come))
-          (Appends-then (g.K.Sink.held c.args.out.now) (g.K.Sink.held c.loop-run.out) (g.K.Sink.held c.write_round.new.out) _ _ (before.written s φ run) (c.in_ok-write_round.ensures.whole names s φ (are_still _ _ _ before.labels c.requires.labels) (subst (λ (tape : Taped). IsRunOf c.args.design.now.net tape s φ) (sym before.tape) run)));
+          (Appends-then (g.K.Sink.held c.args.out.now) (g.K.Sink.held c.loop-run.out) (g.K.Sink.held c.write_round.new.out) _ _ (before.written s φ run) (c.in_ok-write_round.ensures.whole names s φ (are_still _ _ _ before.labels c.requires.labels) (subst (λ (tape : Taped). IsRunOf c.args.evaluator.now.net tape s φ) (sym before.tape) run)));
     }
 
 pub returns-in_err-end-clause-front : goal.returns-in_err-end-clause-front

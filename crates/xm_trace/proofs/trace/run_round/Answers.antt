@@ -9,8 +9,8 @@ use Rattle.xm_trace.proofs.trace.run_round.Goals as goal
 
 pub loop-t-preserved : goal.loop-t-preserved
 loop-t-preserved c =
-    let net = c.args.design.now.net in
-    let is_net = c.net.ensures.design.net in
+    let net = c.args.evaluator.now.net in
+    let is_net = c.design-design.ensures.designed.net in
     let below : c.loop-t.t < cycles_of c.args.tape.now = omega arith in
     let after : c.args.from ≤ c.loop-t.t = omega arith in
     let wires = c.step.new.frame.wires.items in

@@ -18,8 +18,8 @@ overflow_add-self c =
 
 pub returns-clause-here : goal.returns-clause-here
 returns-clause-here c =
-    let net = c.args.design.now.net in
-    let is_net = c.is_designed.ensures.net in
+    let net = c.args.evaluator.now.net in
+    let is_net = c.design.ensures.designed.net in
     let t = c.self.inside.cycles in
     let now = c.args.self.now in
     let same : t ≡ now.cycles = ap (λ (x : RunTextState). x.cycles) c.self.view_is in
@@ -49,8 +49,8 @@ returns-clause-here c =
 
 pub returns-clause-lines : goal.returns-clause-lines
 returns-clause-lines c names s φ are run =
-    let net = c.args.design.now.net in
-    let is_net = c.is_designed.ensures.net in
+    let net = c.args.evaluator.now.net in
+    let is_net = c.design.ensures.designed.net in
     let t = c.self.inside.cycles in
     let now = c.args.self.now in
     let same : t ≡ now.cycles = ap (λ (x : RunTextState). x.cycles) c.self.view_is in
