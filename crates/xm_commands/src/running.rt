@@ -19,8 +19,8 @@ use std::alloc::Global;
 use xm_design::Design;
 use xm_io::Sink;
 use xm_model::{Names, State};
-use xm_step::reset;
-use xm_tape::Tape;
+use xm_step::{Evaluator, reset};
+use xm_tape::{Rows, Tape};
 use xm_trace::{Labels, Lines, RunText, rounds_join};
 
 /// A run that was begun: its state and its text after so many cycles, what its lines are made of, and the lines
@@ -55,24 +55,27 @@ fn round_end(channels: u32, from: u32, cycles: u32) -> u32
 /// Runs the cycles up to `to` and writes their lines.
 fn write_round<K: Sink>(
     alloc: Global,
-    design: &Design,
-    tape: &Tape,
+    evaluator: &Evaluator<'_>,
+    rows: &mut Rows<'_>,
     run: &mut RunSoFar,
     to: u32,
     out: &mut K,
 ) -> Result<(), Refusal>
-    requires underway { IsBegun design.now tape.now run.old }
+    requires underway { IsBegun evaluator.now rows.old.tape run.old }
+    requires row { rows.old.cycle ≡ run.old.text.cycles }
     requires later { run.old.text.cycles < to }
-    requires within { to ≤ cycles_of tape.now }
-    ensures underway { OnOk result (IsBegun design.now tape.now run.new) }
+    requires within { to ≤ cycles_of rows.old.tape }
+    ensures underway { OnOk result (IsBegun evaluator.now rows.old.tape run.new) }
+    ensures tape { OnOk result (rows.new.tape ≡ rows.old.tape) }
+    ensures row { OnOk result (rows.new.cycle ≡ run.new.text.cycles) }
     ensures labels { run.new.labels ≡ run.old.labels }
     ensures come { OnOk result (run.new.text.cycles ≡ to) }
     ensures whole { (names : Naming) (s : ℕ → ℕ → Content) (φ : ℕ → Signals)
-        → AreLabelsOf names run.old.labels → IsRunOf design.now.net tape.now s φ
+        → AreLabelsOf names run.old.labels → IsRunOf evaluator.now.net rows.old.tape s φ
         → OnOk result (Appends (K.held out.old) (K.held out.new)
         (round_lines names φ run.old.text.cycles (to - run.old.text.cycles))) }
     ensures front { (names : Naming) (s : ℕ → ℕ → Content) (φ : ℕ → Signals)
-        → AreLabelsOf names run.old.labels → IsRunOf design.now.net tape.now s φ
+        → AreLabelsOf names run.old.labels → IsRunOf evaluator.now.net rows.old.tape s φ
         → OnErr result (AppendsFront (K.held out.old) (K.held out.new)
         (round_lines names φ run.old.text.cycles (to - run.old.text.cycles))) }
     ensures unharmed { OnOk result (K.faults out.new ≡ K.faults out.old) }
@@ -81,9 +84,9 @@ fn write_round<K: Sink>(
     run.lines.clear();
     run.text.run(
         alloc,
-        design,
+        evaluator,
         &run.labels,
-        tape,
+        rows,
         &mut run.state,
         to,
         &mut run.lines,
@@ -95,31 +98,33 @@ fn write_round<K: Sink>(
 /// round begins.
 fn write_rounds<K: Sink>(
     alloc: Global,
-    design: &Design,
+    evaluator: &Evaluator<'_>,
     names: &Names,
     tape: &Tape,
     run: &mut RunSoFar,
     out: &mut K,
 ) -> Result<(), Refusal>
-    requires channels { length names.now.channels.items ≡ design.now.net.channels }
-    requires colours { length names.now.colours.items ≡ design.now.net.colours }
-    requires underway { IsBegun design.now tape.now run.old }
+    requires channels { length names.now.channels.items ≡ evaluator.now.net.channels }
+    requires colours { length names.now.colours.items ≡ evaluator.now.net.colours }
+    requires underway { IsBegun evaluator.now tape.now run.old }
     requires labels { AreLabelsOf (naming_of names.now) run.old.labels }
     requires begins { run.old.text.cycles ≡ 0 }
-    ensures whole { (text : Items ℕ) → IsTextOfRun design.now.net (naming_of names.now) tape.now text
+    ensures whole { (text : Items ℕ) → IsTextOfRun evaluator.now.net (naming_of names.now) tape.now text
         → OnOk result (Appends (K.held out.old) (K.held out.new) text) }
-    ensures front { (text : Items ℕ) → IsTextOfRun design.now.net (naming_of names.now) tape.now text
+    ensures front { (text : Items ℕ) → IsTextOfRun evaluator.now.net (naming_of names.now) tape.now text
         → OnErr result (AppendsFront (K.held out.old) (K.held out.new) text) }
     ensures unharmed { OnOk result (K.faults out.new ≡ K.faults out.old) }
     ensures cause { IfErr result (IsWriteFault (K.faults out.old) (K.faults out.new)) }
 {
     rounds_join();
-    design.net().is_net();
-    let channels = design.net().channels();
+    let net = evaluator.design().net();
+    net.is_net();
+    let channels = net.channels();
     let cycles = tape.cycles();
+    let mut rows = tape.rows(alloc, 0)?;
     while run.text.cycles() < cycles {
         let to = round_end(channels, run.text.cycles(), cycles);
-        write_round(alloc, design, tape, run, to, out)?;
+        write_round(alloc, evaluator, &mut rows, run, to, out)?;
     }
     let end = run.text.end(alloc, names)?;
     write_text(out, &end)
@@ -143,11 +148,12 @@ pub fn write_run<K: Sink>(
     ensures unharmed { OnOk result (K.faults out.new ≡ K.faults out.old) }
     ensures cause { IfErr result (IsWriteFault (K.faults out.old) (K.faults out.new)) }
 {
+    let evaluator = Evaluator::new(alloc, design)?;
     let mut run = RunSoFar {
         state: reset(alloc, design)?,
         text: RunText::new(alloc, design)?,
         labels: Labels::new(alloc, names)?,
         lines: Lines::new(alloc),
     };
-    write_rounds(alloc, design, names, tape, &mut run, out)
+    write_rounds(alloc, &evaluator, names, tape, &mut run, out)
 }

@@ -12,8 +12,8 @@ use std::alloc::Global;
 use std::marker::Model;
 use xm_design::Design;
 use xm_model::{Frame, List, Names, OutOfMemory, State, Text};
-use xm_step::{blank, step};
-use xm_tape::Tape;
+use xm_step::{Evaluator, blank, step};
+use xm_tape::Rows;
 
 /// How often a colour moved on a channel, where it did.
 #[derive(Clone, Copy, PartialEq, Eq, Debug)]
@@ -95,9 +95,9 @@ impl RunText {
     /// Runs the next cycle, appends its line, for which there is room, and counts its moves.
     fn run_cycle(
         &mut self,
-        design: &Design,
+        evaluator: &Evaluator<'_>,
         texts: &MoveTexts,
-        tape: &Tape,
+        rows: &mut Rows<'_>,
         state: &mut State,
         frame: &mut Frame,
         digits: &[u8],
@@ -106,27 +106,30 @@ impl RunText {
         requires digits { digits.now ≡ decimal self.old.cycles }
         requires ready { AreReady texts.now }
         requires labels { length (labelled_of texts.now).channels ≡ self.old.channels }
-        requires here { IsUnderway design.now.net tape.now self.old state.old.cells.items }
+        requires here { IsUnderway evaluator.now.net rows.old.tape self.old state.old.cells.items }
         requires few { (c d : ℕ) → c < self.old.channels → d < self.old.colours
             → sum_at self.old.sums self.old.colours c d < 2 ^ 32 }
-        requires within { self.old.cycles < cycles_of tape.now }
+        requires row { rows.old.cycle ≡ self.old.cycles }
+        requires within { self.old.cycles < cycles_of rows.old.tape }
         requires counted { self.old.cycles + 1 < 2 ^ 32 }
-        requires wires { length frame.old.wires.items ≡ design.now.net.channels }
+        requires wires { length frame.old.wires.items ≡ evaluator.now.net.channels }
         requires room { length lines.old.items
-            + (length digits.now + design.now.net.channels * move_room texts.now + 1) ≤ lines.old.room }
-        ensures here { IsUnderway design.now.net tape.now self.new state.new.cells.items }
+            + (length digits.now + evaluator.now.net.channels * move_room texts.now + 1) ≤ lines.old.room }
+        ensures here { IsUnderway evaluator.now.net rows.old.tape self.new state.new.cells.items }
         ensures lines { (names : Naming) (s : ℕ → ℕ → Content) (φ : ℕ → Signals)
-            → AreLabelsOf names (labelled_of texts.now) → IsRunOf design.now.net tape.now s φ
+            → AreLabelsOf names (labelled_of texts.now) → IsRunOf evaluator.now.net rows.old.tape s φ
             → lines.new.items ≡ lines.old.items ++ round_lines names φ self.old.cycles 1 }
         ensures cycles { self.new.cycles ≡ self.old.cycles + 1 }
+        ensures tape { rows.new.tape ≡ rows.old.tape }
+        ensures row { rows.new.cycle ≡ self.new.cycles }
         ensures channels { self.new.channels ≡ self.old.channels }
         ensures colours { self.new.colours ≡ self.old.colours }
-        ensures wires { length frame.new.wires.items ≡ design.now.net.channels }
-        ensures rooms { SameRooms design.now.net.prims state.old.cells.items state.new.cells.items }
+        ensures wires { length frame.new.wires.items ≡ evaluator.now.net.channels }
+        ensures rooms { SameRooms evaluator.now.net.prims state.old.cells.items state.new.cells.items }
         ensures room { state.new.cells.room ≡ state.old.cells.room }
     {
-        design.is_designed();
-        step(design, state, tape.at(self.cycles), frame);
+        evaluator.design();
+        step(evaluator, state, rows.row(), frame);
         lines.put_line(
             self.sums.as_mut_slice(),
             texts,
@@ -136,41 +139,45 @@ impl RunText {
             frame.wires.as_slice(),
         );
         self.cycles += 1;
+        rows.advance();
     }
 
-    /// Runs the cycles up to cycle `to`, appends their lines, one line for each, and counts their moves, in time
+    /// Runs the cycles up to cycle `to` under the rows that follow, appends their lines, one line for each, and counts their moves, in time
     /// that is linear in the channels, the cycles, the moves and the bytes of the lines. What the lines need beyond
     /// their room is taken before each cycle. So after a refusal all that was lent stands as after some of the
     /// cycles, with their lines.
     pub fn run(
         &mut self,
         alloc: Global,
-        design: &Design,
+        evaluator: &Evaluator<'_>,
         labels: &Labels,
-        tape: &Tape,
+        rows: &mut Rows<'_>,
         state: &mut State,
         to: u32,
         lines: &mut Lines,
     ) -> Result<(), OutOfMemory>
         requires labels { length labels.now.channels ≡ self.old.channels }
-        requires here { IsUnderway design.now.net tape.now self.old state.old.cells.items }
+        requires here { IsUnderway evaluator.now.net rows.old.tape self.old state.old.cells.items }
+        requires row { rows.old.cycle ≡ self.old.cycles }
         requires order { self.old.cycles ≤ to }
-        requires within { to ≤ cycles_of tape.now }
-        ensures here { IsUnderway design.now.net tape.now self.new state.new.cells.items }
+        requires within { to ≤ cycles_of rows.old.tape }
+        ensures here { IsUnderway evaluator.now.net rows.old.tape self.new state.new.cells.items }
         ensures lines { (names : Naming) (s : ℕ → ℕ → Content) (φ : ℕ → Signals)
-            → AreLabelsOf names labels.now → IsRunOf design.now.net tape.now s φ
+            → AreLabelsOf names labels.now → IsRunOf evaluator.now.net rows.old.tape s φ
             → lines.new.items
             ≡ lines.old.items ++ round_lines names φ self.old.cycles (self.new.cycles - self.old.cycles) }
         ensures later { self.old.cycles ≤ self.new.cycles }
         ensures within { self.new.cycles ≤ to }
         ensures come { OnOk result (self.new.cycles ≡ to) }
+        ensures tape { rows.new.tape ≡ rows.old.tape }
+        ensures row { rows.new.cycle ≡ self.new.cycles }
         ensures channels { self.new.channels ≡ self.old.channels }
         ensures colours { self.new.colours ≡ self.old.colours }
-        ensures rooms { SameRooms design.now.net.prims state.old.cells.items state.new.cells.items }
+        ensures rooms { SameRooms evaluator.now.net.prims state.old.cells.items state.new.cells.items }
         ensures room { state.new.cells.room ≡ state.old.cells.room }
     {
         xm_order::one_run();
-        design.is_designed();
+        let design = evaluator.design();
         let texts = labels.texts();
         let most = room_of_moves(texts, design.net().channels());
         let mut frame = blank(alloc, design)?;
@@ -178,7 +185,7 @@ impl RunText {
             let mut number = Buffer::new();
             let digits = number.format(self.cycles()).as_bytes();
             lines.reserve(digits.len() + most + 1)?;
-            self.run_cycle(design, texts, tape, state, &mut frame, digits, lines);
+            self.run_cycle(evaluator, texts, rows, state, &mut frame, digits, lines);
         }
         Ok(())
     }

@@ -8,6 +8,7 @@ use xm_design::Design;
 use xm_io::{CleanSource, MemSink, MemSource, Source, Words};
 use xm_model::{List, Names, OutOfMemory, Text};
 use xm_netlist::{Document, read_document};
+use xm_step::Evaluator;
 use xm_tape::{Tape, read_tape};
 use xm_trace::{run_all, trace_text};
 
@@ -314,12 +315,17 @@ fn rounds_write(alloc: Global, text: &[u8]) -> bool {
 }
 
 /// The text of the tape's run, made at once, where the names are few and the run is short.
-fn text_at_once(alloc: Global, design: &Design, names: &Names, tape: &Tape) -> Option<Text> {
-    design.net().is_net();
+fn text_at_once(
+    alloc: Global,
+    evaluator: &Evaluator<'_>,
+    names: &Names,
+    tape: &Tape,
+) -> Option<Text> {
+    evaluator.design().net().is_net();
     if names.channels.len() > 2 || names.colours.len() > 1 || tape.cycles() > 40_000 {
         return None;
     }
-    match run_all(alloc, design, tape) {
+    match run_all(alloc, evaluator, tape) {
         Ok(trace) => trace_text(alloc, names, &trace).ok(),
         Err(OutOfMemory) => None,
     }
@@ -330,7 +336,8 @@ fn text_of_run(alloc: Global, document: Document) -> Option<Text> {
     let tape = document.tape;
     let design = Design::new(alloc, document.net, &document.allow).ok()?;
     let tape = read_tape(alloc, &design, tape.as_ref()).ok()?;
-    text_at_once(alloc, &design, &names, &tape)
+    let evaluator = Evaluator::new(alloc, &design).ok()?;
+    text_at_once(alloc, &evaluator, &names, &tape)
 }
 
 fn rounds_write_it(alloc: Global, document: Document) -> bool {
@@ -349,7 +356,12 @@ fn writes_long_names(alloc: Global) -> bool {
         wide(alloc, None),
         Text::from_bytes(alloc, LONG_NAMES.as_bytes()),
     ) {
-        (Ok(mut out), Ok(document)) => writes(alloc, document, &mut out, LONG_NAMES_TEXT.as_bytes()),
+        (Ok(mut out), Ok(document)) => writes(
+            alloc,
+            document,
+            &mut out,
+            LONG_NAMES_TEXT.as_bytes(),
+        ),
         _ => false,
     }
 }

@@ -9,7 +9,7 @@ use Rattle.xm_tape.specs.Marks.{oracles_of}
 use Rattle.xm_tape.specs.Reading.{repeating, taped_in}
 use Rattle.xm_tape.proofs.Fitting.{fits_taped}
 use Rattle.xm_tape.proofs.Taking.{both_read, cycle_refused, stem_refused}
-use Rattle.xm_tape.proofs.tape.Tape.written.Goals as goal
+use Rattle.xm_tape.proofs.written.WrittenTape.new.Goals as goal
 
 pub returns-in_err-push_marked_rows : goal.returns-in_err-push_marked_rows
 returns-in_err-push_marked_rows c =

@@ -1,7 +1,7 @@
 use Rattle.std.proofs.Common.{◌≡◌, suc, ◌+◌, ◌-◌, ◌*◌, ◌≤◌, length, ap, arith, sym}
 use Rattle.std.proofs.Math.Nat.{mul-le-mul_right}
 use Rattle.xm_tape.proofs.Repeating.{row_taken}
-use Rattle.xm_tape.proofs.tape.Tape.at.Goals as goal
+use Rattle.xm_tape.proofs.written.WrittenTape.at.Goals as goal
 
 pub slice_bounds-result-end : goal.slice_bounds-result-end
 slice_bounds-result-end c =
