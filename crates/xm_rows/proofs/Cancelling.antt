@@ -6,9 +6,8 @@ use Rattle.xm_rows.specs.Row.{SparseRow, IsRow, Fits128, coefficient}
 use Rattle.xm_rows.specs.Divisor.{IsReductionOf}
 use Rattle.xm_rows.specs.Combination.{AreFactors, DifferenceFits, CombinationLeaves, IsCancelled, Overflows}
 use Rattle.xm_rows.specs.Inner.Merging.{IsMerge}
-use Rattle.xm_rows.proofs.Integers.{zero_factor}
-use Rattle.xm_rows.proofs.Factors.{factors_cancel}
-use Rattle.xm_rows.proofs.Meeting.{one_pair}
+use Rattle.xm_rows.specs.Lemmas.Integers.{zero_factor}
+use Rattle.xm_rows.specs.Lemmas.Factors.{factors_cancel}
 
 pub overflows_by : (r s : SparseRow) (column : ℕ) (u v a b : ℤ) → AreFactors a b u v → a ≡ coefficient r.entries column → b ≡ coefficient s.entries column →
     CombinationLeaves r s u v → Overflows r s column
@@ -55,13 +54,3 @@ gone_by r s column t nonzero c =
     let some = c.combination.positive in
     zero_factor (pos c.combination.divisor) (coefficient t.entries column) (λ e. absurd (omega (arith, ints)))
     (c.combination.entries column ∙ factors_cancel (coefficient r.entries column) (coefficient s.entries column) c.u c.v nonzero c.factors)
-
--- what leaves 128 bits is not cancelled
-pub never_both : (r s : SparseRow) (column : ℕ) (t : SparseRow) → coefficient s.entries column ≢ pos 0 → IsCancelled r s column t → ¬ Overflows r s column
-never_both r s column t nonzero c o =
-    let same = one_pair (coefficient r.entries column) (coefficient s.entries column) o.u o.v c.u c.v nonzero o.factors c.factors in
-    let leaves = rw (same.0, same.1) at o.leaves in
-    elim leaves [
-      | inl at_column ↦ at_column.1 (c.fits.entries at_column.0)
-      | inr in_constant ↦ in_constant c.fits.constant
-    ]

@@ -10,7 +10,7 @@ use Rattle.std.proofs.Math.Nat.{eq-zero_of_zero-dvd, dvd_of_mul-dvd-mul_right, m
 use Rattle.xm_rows.specs.declared.row.Entry.{Entry}
 use Rattle.xm_rows.specs.Row.{SparseRow, IsRow, IsRising, Fits128, coefficient}
 use Rattle.xm_rows.specs.Divisor.{IsCommonDivisor, IsRowDivisor, IsReductionOf, IsLeadingFactor, IsPrimitiveOf, over, divided}
-use Rattle.xm_rows.proofs.Integers.{abs_positive, zero_from_abs, quotient_times, distrib, one_times}
+use Rattle.xm_rows.specs.Lemmas.Integers.{abs_positive, zero_from_abs, quotient_times, distrib, one_times}
 
 all_left : (P : Entry → Type 0) (xs ys : List Entry) → All P (xs ++ ys) → All P xs
 all_left P [] ys h = All-nil P

@@ -8,7 +8,7 @@ use Rattle.xm_rows.specs.declared.row.Entry.{Entry}
 use Rattle.xm_rows.specs.Row.{Fits128, IsRising, coefficient}
 use Rattle.xm_rows.specs.Combination.{DifferenceFits}
 use Rattle.xm_rows.specs.Inner.Merging.{IsMerge, StartsAt, behind}
-use Rattle.xm_rows.proofs.Entries.{own_column, other_column, coefficient-append, coefficient_absent, rising_tail, rising_above, rising_push, later_coefficient}
+use Rattle.xm_rows.specs.Lemmas.Entries.{own_column, other_column, coefficient-append, coefficient_absent, rising_tail, rising_above, rising_push, later_coefficient}
 
 -- below the column `low` all is merged into out, and from it on all is left
 pub record IsMerging (u : ℤ) (r : List Entry) (v : ℤ) (s out left right : List Entry) : Type 0 where

@@ -1,5 +1,6 @@
 pub mod Combination
 pub mod Divisor
 pub mod Inner
+pub mod Lemmas
 pub mod Points
 pub mod Row

@@ -9,7 +9,9 @@ mod laws;
 mod reduce;
 mod row;
 
+pub use arithmetic::{product, sum};
 pub use combine::{CancelFault, cancel};
+pub use divisor::gcd;
 pub use evaluate::dot;
 pub use laws::{
     combination_gives_back_points, combination_keeps_points, first_factor_is_positive,

@@ -1,6 +1,7 @@
 //! The moves of a run.
 
 ghost use Rattle.std.specs.Prelude.{◌≡◌, ◌+◌, ◌-◌, ◌*◌, ◌^◌, ◌<◌, ◌≤◌, ◌++◌, length, IfOk, OnOk, OnErr};
+ghost use Rattle.std.specs.Option.{option_to_list};
 ghost use Rattle.xm_model.specs.Views.{signals_of};
 ghost use Rattle.xm_model.specs.Signals.{only_if};
 ghost use Rattle.xm_model.specs.Limits.{most_channels};
@@ -30,6 +31,22 @@ pub struct Trace {
     pub moves: List<Move>,
 }
 
+/// The move on the channel in the cycle, if there is one.
+pub fn move_on(cycle: u32, channel: u32, wire: Wire) -> Option<Move>
+    ensures { option_to_list result ≡ moved_on cycle channel (only_if wire.ready wire.offer) }
+{
+    if let Some(colour) = wire.offer
+        && wire.ready
+    {
+        return Some(Move {
+            cycle,
+            channel,
+            colour,
+        });
+    }
+    None
+}
+
 /// Notes the move on the channel in the cycle, if there is one. There is room for it.
 fn note_move(moves: &mut List<Move>, cycle: u32, channel: u32, wire: Wire)
     requires { length moves.old.items < moves.old.room }
@@ -37,14 +54,8 @@ fn note_move(moves: &mut List<Move>, cycle: u32, channel: u32, wire: Wire)
     ensures few { length moves.new.items ≤ length moves.old.items + 1 }
     ensures room { moves.new.room ≡ moves.old.room }
 {
-    if let Some(colour) = wire.offer
-        && wire.ready
-    {
-        let _ = moves.push(Move {
-            cycle,
-            channel,
-            colour,
-        });
+    if let Some(it) = move_on(cycle, channel, wire) {
+        let _ = moves.push(it);
     }
 }
 

@@ -1,7 +1,7 @@
 use Rattle.std.proofs.Common.{pos, arith}
 use Rattle.std.specs.Int.{w128}
 use Rattle.std.proofs.lemmas.Int.{to_z-of_z, to_z_pos, fits_signed_from_abs, ints}
-use Rattle.xm_rows.proofs.Factors.{gcd_positive, gcd_fits, gcd_of}
+use Rattle.xm_rows.specs.Lemmas.Factors.{gcd_positive, gcd_fits, gcd_of}
 use Rattle.xm_rows.proofs.combine.common_divisor.Goals as goal
 
 pub overflow_cast-result : goal.overflow_cast-result

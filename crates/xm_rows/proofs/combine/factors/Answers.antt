@@ -2,7 +2,7 @@ use Rattle.std.proofs.Common.{◌≡◌, ℤ, pos, ◌-ℤ◌, ◌∙◌, neg_�
 use Rattle.std.specs.Int.{w128}
 use Rattle.std.proofs.lemmas.Int.{to_z-of_z, fits_signed_from_abs, ints}
 use Rattle.xm_rows.specs.Row.{Fits128}
-use Rattle.xm_rows.proofs.Factors.{factors_up, factors_down}
+use Rattle.xm_rows.specs.Lemmas.Factors.{factors_up, factors_down}
 use Rattle.xm_rows.proofs.combine.factors.Goals as goal
 
 -- what the code's negation gives

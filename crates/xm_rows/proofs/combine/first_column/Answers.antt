@@ -1,5 +1,5 @@
 use Rattle.std.proofs.Common.{arith, tests, pos}
-use Rattle.xm_rows.proofs.Entries.{lowest_below}
+use Rattle.xm_rows.specs.Lemmas.Entries.{lowest_below}
 use Rattle.xm_rows.proofs.combine.first_column.Goals as goal
 
 pub returns-in-empty-len1-up-clause-lowest : goal.returns-in-empty-len1-up-clause-lowest

@@ -1,7 +1,7 @@
 use Rattle.std.proofs.Common.{arith, tests, ◌∙◌, pos, rules}
 use Rattle.std.specs.Int.{w128}
 use Rattle.std.proofs.lemmas.Int.{to_z-of_z}
-use Rattle.xm_rows.proofs.Entries.{first_taken, none_taken}
+use Rattle.xm_rows.specs.Lemmas.Entries.{first_taken, none_taken}
 use Rattle.xm_rows.proofs.combine.take_column.Goals as goal
 use Rattle.xm_rows.proofs.combine.take_column.Goals.{in_default-via-then-entries-lt1, in_default-via-in-len1-up+else-e-column}
 

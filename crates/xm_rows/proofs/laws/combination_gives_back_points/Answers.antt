@@ -1,4 +1,4 @@
-use Rattle.xm_rows.proofs.Meeting.{gives_back_points}
+use Rattle.xm_rows.specs.Lemmas.Meeting.{gives_back_points}
 use Rattle.xm_rows.proofs.laws.combination_gives_back_points.Goals as goal
 
 pub returns : goal.returns

@@ -1,4 +1,4 @@
-use Rattle.xm_rows.proofs.Meeting.{one_pair}
+use Rattle.xm_rows.specs.Lemmas.Meeting.{one_pair}
 use Rattle.xm_rows.proofs.laws.one_pair_of_factors.Goals as goal
 
 pub returns : goal.returns

@@ -4,7 +4,7 @@ use Rattle.std.proofs.lemmas.Int.{to_z-of_z}
 use Rattle.std.proofs.lemmas.List.{drop_more, drop_all}
 use Rattle.xm_rows.specs.declared.row.Entry.{Entry}
 use Rattle.xm_rows.specs.Row.{IsRising, coefficient}
-use Rattle.xm_rows.proofs.Entries.{rising_tail, first_coefficient, later_coefficient}
+use Rattle.xm_rows.specs.Lemmas.Entries.{rising_tail, first_coefficient, later_coefficient}
 use Rattle.xm_rows.proofs.row.Row.value_at.Invariants.{IsAhead}
 use Rattle.xm_rows.proofs.row.Row.value_at.Goals as goal
 

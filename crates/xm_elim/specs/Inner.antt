@@ -1,0 +1,4 @@
+-- What private clauses cite, and no public one.
+pub mod Columns
+pub mod Places
+pub mod Testing

@@ -1,0 +1,4 @@
+pub mod Basis
+pub mod Determined
+pub mod Elimination
+pub mod Inner

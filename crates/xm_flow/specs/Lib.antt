@@ -1,0 +1,5 @@
+pub mod FlowRows
+pub mod Holding
+pub mod Inner
+pub mod Lemmas
+pub mod ValidLemma
