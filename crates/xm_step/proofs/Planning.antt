@@ -1,11 +1,11 @@
 -- A plan for the cycles of a design: what it asks of the design, and that its signals are a frame.
-use Rattle.std.proofs.Common.{◌≡◌, ℕ, zero, suc, ◌+◌, ◌<◌, List, [], ◌∷◌, Option, Some, None, All, length, map, get_or, slice_get, slice_index, refl, sym, ap, ◌∙◌, subst, inl, inr}
+use Rattle.std.proofs.Common.{◌≡◌, ℕ, ◌<◌, List, Option, Some, None, length, slice_get, refl, sym, ap, ◌∙◌, subst, inl, inr}
 use Rattle.std.specs.Prelude.{option_map}
 use Rattle.std.proofs.lemmas.List.Elements.{All-get_or}
 use Rattle.std.proofs.lemmas.Option.{get_or_from_slice_get, slice_get-map, slice_get_within}
 use Rattle.xm_design.specs.Designed.{Designed, IsDesigned}
 use Rattle.xm_design.specs.Numbers.{IsOracles}
-use Rattle.xm_design.specs.Tasks.{AreTasks, Makes, made_signals}
+use Rattle.xm_design.specs.Tasks.{AreTasks, Makes}
 use Rattle.xm_design.specs.declared.tasks.Task.{Task}
 use Rattle.xm_model.specs.Component.{Component, Content}
 use Rattle.xm_model.specs.Frame.{IsFrame}
@@ -14,7 +14,7 @@ use Rattle.xm_model.specs.Net.{HasPrim, IsNet, Network}
 use Rattle.xm_model.specs.Signals.{Signals}
 use Rattle.xm_model.specs.Views.{choice_at, choice_or, oracles_below}
 use Rattle.xm_model.specs.declared.state.Choice.{Choice}
-use Rattle.xm_order.specs.Dependence.{IsOrder, Needs}
+use Rattle.xm_order.specs.Dependence.{IsOrder}
 use Rattle.xm_order.specs.Settle.{IsMade, SettleLaw}
 use Rattle.xm_order.specs.declared.signal.Signal.{Signal}
 use Rattle.xm_order.specs.declared.signal.Signal.TheVariants as signal

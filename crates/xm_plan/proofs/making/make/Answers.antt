@@ -1,5 +1,5 @@
-use Rattle.std.proofs.Common.{◌≡◌, ◌<◌, ℕ, length, map, refl, sym, ap, ◌∙◌, subst, arith}
-use Rattle.xm_model.specs.Component.{Component, component_of, content_of}
+use Rattle.std.proofs.Common.{map, refl, ap, ◌∙◌, arith}
+use Rattle.xm_model.specs.Component.{component_of, content_of}
 use Rattle.xm_model.specs.Views.{content_at, signals_of}
 use Rattle.xm_plan.proofs.Operating.{cell_read, component_read, done_from, fork_done, fork_plain_done, function_done, join_done, merge_done, places_below, prim_within, queue_done, sink_choice, sink_done, source_choice, source_done, switch_offers_done, switch_ready_done}
 use Rattle.xm_plan.proofs.Places.{choice_read}

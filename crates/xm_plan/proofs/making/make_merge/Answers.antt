@@ -1,4 +1,4 @@
-use Rattle.std.proofs.Common.{refl, sym, ap, ◌∙◌}
+use Rattle.std.proofs.Common.{refl, sym, ◌∙◌}
 use Rattle.xm_model.specs.Lemmas.PortCounts.{at_first, at_second}
 use Rattle.xm_model.specs.Views.{signals_of}
 use Rattle.xm_plan.proofs.AtPorts.{not_first}

@@ -1,4 +1,4 @@
-use Rattle.std.proofs.Common.{◌≡◌, List, ℕ, map, ap, sym, ◌∙◌, subst}
+use Rattle.std.proofs.Common.{List, map, sym, ◌∙◌}
 use Rattle.std.proofs.lemmas.List.{length-map}
 use Rattle.xm_model.specs.Component.{Component, component_of}
 use Rattle.xm_plan.specs.Inner.Kept.{AreFor, AreKept}

@@ -1,4 +1,4 @@
-use Rattle.std.proofs.Common.{◌≡◌, List, ℕ, length, map, ap, sym, ◌∙◌, subst}
+use Rattle.std.proofs.Common.{List, ℕ, map, ap, sym, ◌∙◌, subst}
 use Rattle.xm_design.specs.declared.tasks.Task.{Task}
 use Rattle.xm_model.specs.Component.{Component, component_of}
 use Rattle.xm_model.specs.Views.{signals_of}
