@@ -9,13 +9,13 @@ use Rattle.xm_check.specs.Lemmas.Trees.{AreTrees, EachOneTree, kids_of}
 use Rattle.xm_colours.specs.Family.{colours_at}
 use Rattle.xm_design.specs.Designed.{Designed}
 use Rattle.xm_flow.specs.ValidLemma.{Lemma}
-use Rattle.xm_lits.specs.Clashes.{offered, opposed, outside}
+use Rattle.xm_lits.specs.Clashes.{is_offered, are_opposed, is_outside}
 use Rattle.xm_lits.specs.Inference.{idle_all, rules_of}
 use Rattle.xm_lits.specs.declared.literal.Lit.{Lit}
 use Rattle.xm_model.specs.Steps.{◌>>=◌, check, demand}
 use Rattle.xm_proof.specs.Argument.{Argument, Cite, Clash, Eager, Open, Refutation, Split, Step, Sum, literals}
 use Rattle.xm_proof.specs.Sums.{Sums, add_row, all_zero, is_positive, no_sums}
-use Rattle.xm_lits.specs.Paths.{all_on_path, on_path}
+use Rattle.xm_lits.specs.Paths.{are_on_path, is_on_path}
 use Rattle.xm_proof.specs.Tests.{find_rule, longer, move_columns, queue_columns}
 use Rattle.xm_proof.specs.Valid.{AddUp, AllRefuted, AreGoals, AreLemmas, Cites, Clashes, Closes, GoalsRefuted, IsLemma, IsProof, Refutes, all_goals, has_sign, is_dead_pair, item_row, multiplier}
 use Rattle.xm_rows.specs.Row.{SparseRow}
@@ -70,9 +70,9 @@ module _ (it : Designed) where
   goals_valid : (before : List Lit) (k : ℕ) (ls : List Lit) (x : ⊤) → goals_test it before k ls ≡ Ok x → AreGoals it before ls
   goals_valid before k [] x h = tt
   goals_valid before k (l ∷ ls) x h =
-      let a = parts (check (is_dead_pair it l && not (on_path before l)) (place.Goal k, reason.Goal)) _ x h in
-      let both = and_parts (is_dead_pair it l) (not (on_path before l)) (checked _ (place.Goal k, reason.Goal) a.0 a.1.0) in
-      (both.0, (not_true (on_path before l) both.1, goals_valid (before ++ l ∷ []) (suc k) ls x a.1.1))
+      let a = parts (check (is_dead_pair it l && not (is_on_path before l)) (place.Goal k, reason.Goal)) _ x h in
+      let both = and_parts (is_dead_pair it l) (not (is_on_path before l)) (checked _ (place.Goal k, reason.Goal) a.0 a.1.0) in
+      (both.0, (not_true (is_on_path before l) both.1, goals_valid (before ++ l ∷ []) (suc k) ls x a.1.1))
 
   goals_unbroken : (before : List Lit) (k : ℕ) (ls : List Lit) → AreGoals it before ls → goals_test it before k ls ≡ Ok tt
   goals_unbroken before k [] are = refl
@@ -116,12 +116,12 @@ module _ (it : Designed) where
 
     clash_valid : (path : List Lit) (l : Lit) (other : Option Lit) (x : ⊤) → clash_test it path l other ≡ Ok x → Clashes it path l other
     clash_valid path l None x h =
-        let a = parts (check (on_path path l) reason.Absent) _ x h in
-        (checked (on_path path l) reason.Absent a.0 a.1.0, checked (outside it l) reason.Clash x a.1.1)
+        let a = parts (check (is_on_path path l) reason.Absent) _ x h in
+        (checked (is_on_path path l) reason.Absent a.0 a.1.0, checked (is_outside it l) reason.Clash x a.1.1)
     clash_valid path l (Some m) x h =
-        let a = parts (check (on_path path l && on_path path m) reason.Absent) _ x h in
-        let both = and_parts (on_path path l) (on_path path m) (checked _ reason.Absent a.0 a.1.0) in
-        (both.0, (both.1, checked (opposed l m) reason.Clash x a.1.1))
+        let a = parts (check (is_on_path path l && is_on_path path m) reason.Absent) _ x h in
+        let both = and_parts (is_on_path path l) (is_on_path path m) (checked _ reason.Absent a.0 a.1.0) in
+        (both.0, (both.1, checked (are_opposed l m) reason.Clash x a.1.1))
 
     clash_unbroken : (path : List Lit) (l : Lit) (other : Option Lit) → Clashes it path l other → clash_test it path l other ≡ Ok tt
     clash_unbroken path l None are = rw (are.0, are.1) refl
@@ -135,13 +135,13 @@ module _ (it : Designed) where
     step_valid : (before path : List Lit) (step : Step) (paths : List (List Lit)) → step_test it lemmas before path step ≡ Ok paths →
         Refutes it lemmas before path step paths × (length paths ≡ kids_of step)
     step_valid before path (Split name on via kids) paths h =
-        let a = parts (check (on_path path on) reason.Absent) _ paths h in
+        let a = parts (check (is_on_path path on) reason.Absent) _ paths h in
         let b = parts (demand (find_rule (rules_of it on) name via) reason.Rule) _ paths a.1.1 in
         let c = parts (check (nat_eq (length b.0.alternatives) kids) reason.Alternatives) _ paths b.1.1 in
         let whole = eqb-true (length b.0.alternatives) kids (checked (nat_eq (length b.0.alternatives) kids) reason.Alternatives c.0 c.1.0) in
         let left : longer path b.0.alternatives ≡ paths = cc in (
           record {
-            here = checked (on_path path on) reason.Absent a.0 a.1.0;
+            here = checked (is_on_path path on) reason.Absent a.0 a.1.0;
             rule = b.0;
             found = demanded (find_rule (rules_of it on) name via) reason.Rule b.0 b.1.0;
             whole = whole;
@@ -154,10 +154,10 @@ module _ (it : Designed) where
         let none : paths ≡ [] = cc in
         ((clash_valid path l other a.0 a.1.0, none), ap length none)
     step_valid before path (Eager c) paths h =
-        let a = parts (check (all_on_path path (idle_all (colours_at it.colours) c)) reason.Absent) _ paths h in
-        let b = parts (check (offered it c) reason.Clash) _ paths a.1.1 in
+        let a = parts (check (are_on_path path (idle_all (colours_at it.colours) c)) reason.Absent) _ paths h in
+        let b = parts (check (is_offered it c) reason.Clash) _ paths a.1.1 in
         let none : paths ≡ [] = cc in
-        ((checked (all_on_path path (idle_all (colours_at it.colours) c)) reason.Absent a.0 a.1.0, (checked (offered it c) reason.Clash b.0 b.1.0, none)), ap length none)
+        ((checked (are_on_path path (idle_all (colours_at it.colours) c)) reason.Absent a.0 a.1.0, (checked (is_offered it c) reason.Clash b.0 b.1.0, none)), ap length none)
     step_valid before path (Sum items) paths h =
         let a = parts (sum_test it lemmas path items) _ paths h in
         let none : paths ≡ [] = cc in

@@ -7,7 +7,7 @@ use Rattle.xm_check.specs.Break.{goals_test}
 use Rattle.xm_check.specs.Inner.Marked.{AreMarks, are_marked_at}
 use Rattle.xm_colours.specs.Pairs.{pairs}
 use Rattle.xm_design.specs.Designed.{Designed}
-use Rattle.xm_lits.specs.Paths.{on_path, same_lit}
+use Rattle.xm_lits.specs.Paths.{is_on_path, are_same}
 use Rattle.xm_lits.specs.declared.literal.Lit.{Lit}
 use Rattle.xm_lits.specs.declared.literal.Lit.TheVariants.{Stuck, Dead, Idle, Full, Has, Lacks}
 use Rattle.xm_proof.specs.Valid.{all_goals, is_dead_pair}
@@ -19,11 +19,11 @@ stands d [] h = absurd (omega arith)
 stands d (x ∷ xs) h = elim (first_or_rest x d (times d xs) h) [ inl same ↦ inl same | inr more ↦ inr (stands d xs more) ]
 
 -- a path with one literal more
-on_more : (path : List Lit) (l m : Lit) → on_path (path ++ l ∷ []) m ≡ (on_path path m || same_lit l m)
-on_more [] l m = elim (cases_Bool (same_lit l m)) [ inl t ↦ rw t refl | inr f ↦ rw f refl ]
+on_more : (path : List Lit) (l m : Lit) → is_on_path (path ++ l ∷ []) m ≡ (is_on_path path m || are_same l m)
+on_more [] l m = elim (cases_Bool (are_same l m)) [ inl t ↦ rw t refl | inr f ↦ rw f refl ]
 on_more (x ∷ xs) l m =
     let rest = on_more xs l m in
-    elim (cases_Bool (same_lit x m)) [ inl t ↦ rw t refl | inr f ↦ rw f rest ]
+    elim (cases_Bool (are_same x m)) [ inl t ↦ rw t refl | inr f ↦ rw f rest ]
 
 apart : (c d e f : ℕ) → d < 64 → f < 64 → nat_eq c e && nat_eq d f ≡ false → 64 * e + f ≢ 64 * c + d
 apart c d e f small f_small miss same =
@@ -48,12 +48,12 @@ marked_more n before marks c d are below small = record {
         let both = and_parts (nat_eq c e) (nat_eq d f) t in
         let place : 64 * c + d ≡ 64 * e + f = rw (eqb-true c e both.0, eqb-true d f both.1) refl in
         let within : 64 * c + d < length marks = omega (arith, are.whole) in
-        subst (λ (k : ℕ). slice_index_or (slice_set marks (64 * c + d) true) k false ≡ on_path (before ++ Dead c d ∷ []) (Dead e f)) place
-        (get_or-set_same marks (64 * c + d) true false within ∙ sym (more ∙ ap (λ b. on_path before (Dead e f) || b) t ∙ or_true (on_path before (Dead e f))))
+        subst (λ (k : ℕ). slice_index_or (slice_set marks (64 * c + d) true) k false ≡ is_on_path (before ++ Dead c d ∷ []) (Dead e f)) place
+        (get_or-set_same marks (64 * c + d) true false within ∙ sym (more ∙ ap (λ b. is_on_path before (Dead e f) || b) t ∙ or_true (is_on_path before (Dead e f))))
     | inr g ↦
         get_or-set_other marks (64 * c + d) (64 * e + f) true false (apart c d e f small f_small g)
         ∙ are.marked e f e_below f_small
-        ∙ sym (more ∙ ap (λ b. on_path before (Dead e f) || b) g ∙ or_false (on_path before (Dead e f)))
+        ∙ sym (more ∙ ap (λ b. is_on_path before (Dead e f) || b) g ∙ or_false (is_on_path before (Dead e f)))
   ];
 }
 
@@ -64,7 +64,7 @@ take_on (y ∷ ys) zero x h = refl
 take_on (y ∷ ys) (suc k) x h = ap (λ zs. y ∷ zs) (take_on ys k x (omega arith))
 
 -- a goal that is fresh is passed
-pub goal_passed : (it : Designed) (before : List Lit) (k : ℕ) (l : Lit) (rest : List Lit) → (is_dead_pair it l && not (on_path before l)) ≡ true
+pub goal_passed : (it : Designed) (before : List Lit) (k : ℕ) (l : Lit) (rest : List Lit) → (is_dead_pair it l && not (is_on_path before l)) ≡ true
     → goals_test it before k (l ∷ rest) ≡ goals_test it (before ++ l ∷ []) (k + 1) rest
 goal_passed it before k l rest fresh = rw fresh (ap (λ (n : ℕ). goals_test it (before ++ l ∷ []) n rest) (sym (add-one k)))
 
@@ -79,7 +79,7 @@ all_are_goals n before marks c (d ∷ ds) are below small =
 
 pub all_goals-append : (ls : List Lit) (xs ys : List (ℕ × ℕ)) → all_goals ls (xs ++ ys) ≡ (all_goals ls xs && all_goals ls ys)
 all_goals-append ls [] ys = refl
-all_goals-append ls (x ∷ xs) ys = elim (cases_Bool (on_path ls (Dead x.0 x.1))) [ inl t ↦ rw t (all_goals-append ls xs ys) | inr f ↦ rw f refl ]
+all_goals-append ls (x ∷ xs) ys = elim (cases_Bool (is_on_path ls (Dead x.0 x.1))) [ inl t ↦ rw t (all_goals-append ls xs ys) | inr f ↦ rw f refl ]
 
 -- the pairs of the channels, the last one apart
 pub goals_last : (ls : List Lit) (colours : ℕ → List ℕ) (n : ℕ) → 0 < n

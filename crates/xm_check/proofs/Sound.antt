@@ -32,7 +32,7 @@ use Rattle.xm_proof.specs.Argument.{Argument, literals}
 use Rattle.xm_proof.specs.Lemmas.Integers.{negated, one_times, scaled}
 use Rattle.xm_proof.specs.Lemmas.Refuting.{IsReading, goal_fails, on_path_holds}
 use Rattle.xm_proof.specs.Sums.{is_natural}
-use Rattle.xm_lits.specs.Paths.{on_path}
+use Rattle.xm_lits.specs.Paths.{is_on_path}
 use Rattle.xm_proof.specs.Tests.{capacity_row, count_row, entries_where, is_queue, literal_row, low_row, move_columns, of_pair, of_queue, only_where, packets_row, queue_columns}
 use Rattle.xm_proof.specs.Valid.{AreLemmas, IsLemma, IsProof, all_goals, has_sign, item_row, lemma_row, multiplier, of_a_queue}
 use Rattle.xm_proof.specs.Lemmas.Weighing.{EndsAt, no_sum}
@@ -195,8 +195,8 @@ module _ (coloured : ColoursHold) (lemmas_hold : LemmasHold) (it : Designed) (ro
         scaled m row.constant (left_side row.entries at_queue) (natural_from m sign)
         (subst (λ (x : SparseRow). x.constant ≤ℤ left_side x.entries at_queue) same (low_kept q d))
     kept path all (item.Path l m) row at sign =
-        let is = only_where_some (on_path path l && of_a_queue it l) (literal_row it l) row at in
-        let both = and_parts (on_path path l) (of_a_queue it l) is.0 in
+        let is = only_where_some (is_on_path path l && of_a_queue it l) (literal_row it l) row at in
+        let both = and_parts (is_on_path path l) (of_a_queue it l) is.0 in
         scaled m row.constant (left_side row.entries at_queue) (natural_from m sign)
         (literal_kept l row both.1 is.1 (on_path_holds (Holds it.net r) path l both.0 all))
 
@@ -210,12 +210,12 @@ module _ (coloured : ColoursHold) (lemmas_hold : LemmasHold) (it : Designed) (ro
   }
 
   -- every pair is a goal
-  goal_of : (ls : List Lit) (pairs : List (ℕ × ℕ)) (c d : ℕ) → all_goals ls pairs ≡ true → IsIn {X = ℕ × ℕ} pairs (c, d) → on_path ls (Dead c d) ≡ true
+  goal_of : (ls : List Lit) (pairs : List (ℕ × ℕ)) (c d : ℕ) → all_goals ls pairs ≡ true → IsIn {X = ℕ × ℕ} pairs (c, d) → is_on_path ls (Dead c d) ≡ true
   goal_of ls [] c d all at = absurd at
   goal_of ls (pair ∷ rest) c d all at =
-      let both = and_parts (on_path ls (Dead pair.0 pair.1)) (all_goals ls rest) all in
+      let both = and_parts (is_on_path ls (Dead pair.0 pair.1)) (all_goals ls rest) all in
       elim at [
-        | inl same ↦ subst (λ (x : ℕ × ℕ). on_path ls (Dead x.0 x.1) ≡ true) same both.0
+        | inl same ↦ subst (λ (x : ℕ × ℕ). is_on_path ls (Dead x.0 x.1) ≡ true) same both.0
         | inr more ↦ goal_of ls rest c d both.1 more
       ]
 

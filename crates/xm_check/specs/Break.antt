@@ -5,13 +5,13 @@ use Rattle.xm_colours.specs.Family.{colours_at}
 use Rattle.xm_design.specs.Designed.{Designed}
 use Rattle.xm_flow.specs.Holding.{pair_count, queue_pair_count}
 use Rattle.xm_flow.specs.ValidLemma.{IsValid, Lemma, TestFits}
-use Rattle.xm_lits.specs.Clashes.{offered, opposed, outside}
+use Rattle.xm_lits.specs.Clashes.{is_offered, are_opposed, is_outside}
 use Rattle.xm_lits.specs.Inference.{idle_all, rules_of}
 use Rattle.xm_lits.specs.declared.literal.Lit.{Lit}
 use Rattle.xm_model.specs.Steps.{◌>>=◌, check, demand}
 use Rattle.xm_proof.specs.Argument.{Argument, Cite, Clash, Eager, Open, Refutation, Split, Step, Sum, literals}
 use Rattle.xm_proof.specs.Sums.{Sums, add_row, all_zero, is_positive, no_sums}
-use Rattle.xm_lits.specs.Paths.{all_on_path, on_path}
+use Rattle.xm_lits.specs.Paths.{are_on_path, is_on_path}
 use Rattle.xm_proof.specs.Tests.{find_rule, longer, move_columns, queue_columns}
 use Rattle.xm_proof.specs.Valid.{AreLemmas, IsProof, all_goals, has_sign, is_dead_pair, item_row, multiplier}
 use Rattle.xm_rows.specs.Row.{SparseRow}
@@ -64,20 +64,20 @@ sum_test it lemmas path items = do
 
 abbrev pub clash_test : Designed → List Lit → Lit → Option Lit → Result ⊤ Reason
 clash_test it path l None = do
-  _ ← check (on_path path l) reason.Absent
-  check (outside it l) reason.Clash
+  _ ← check (is_on_path path l) reason.Absent
+  check (is_outside it l) reason.Clash
 clash_test it path l (Some m) = do
-  _ ← check (on_path path l && on_path path m) reason.Absent
-  check (opposed l m) reason.Clash
+  _ ← check (is_on_path path l && is_on_path path m) reason.Absent
+  check (are_opposed l m) reason.Clash
 
 abbrev pub some_on_path : List Lit → Option Lit → Bool
 some_on_path path None = false
-some_on_path path (Some l) = on_path path l
+some_on_path path (Some l) = is_on_path path l
 
 -- a step on a path, and the paths that it leaves to refute
 abbrev pub step_test : Designed → List Lemma → List Lit → List Lit → Step → Result (List (List Lit)) Reason
 step_test it lemmas before path (Split name on via kids) = do
-  _ ← check (on_path path on) reason.Absent
+  _ ← check (is_on_path path on) reason.Absent
   rule ← demand (find_rule (rules_of it on) name via) reason.Rule
   _ ← check (nat_eq (length rule.alternatives) kids) reason.Alternatives
   Ok (longer path rule.alternatives)
@@ -85,8 +85,8 @@ step_test it lemmas before path (Clash l other) = do
   _ ← clash_test it path l other
   Ok []
 step_test it lemmas before path (Eager c) = do
-  _ ← check (all_on_path path (idle_all (colours_at it.colours) c)) reason.Absent
-  _ ← check (offered it c) reason.Clash
+  _ ← check (are_on_path path (idle_all (colours_at it.colours) c)) reason.Absent
+  _ ← check (is_offered it c) reason.Clash
   Ok []
 step_test it lemmas before path (Sum items) = do
   _ ← sum_test it lemmas path items
@@ -119,7 +119,7 @@ trees_test it lemmas before k (g ∷ gs) = do
 abbrev pub goals_test : Designed → List Lit → ℕ → List Lit → Result ⊤ (ProofPath × Reason)
 goals_test it before k [] = Ok tt
 goals_test it before k (l ∷ ls) = do
-  _ ← check (is_dead_pair it l && not (on_path before l)) (place.Goal k, reason.Goal)
+  _ ← check (is_dead_pair it l && not (is_on_path before l)) (place.Goal k, reason.Goal)
   goals_test it (before ++ l ∷ []) (suc k) ls
 
 -- what is tested behind the lemmas

@@ -61,7 +61,7 @@ fn is_pair(design: &Design, channel: u32, colour: u8) -> bool
 fn mark_goal(design: &Design, marks: &mut [bool], goal: &Lit) -> bool
     requires { length marks.old ≡ 64 * design.now.net.channels }
     ensures fresh { (before : Items Literal) → AreMarks design.now.net.channels before marks.old
-        → result ≡ (spec.is_dead_pair design.now goal.now && not (paths.on_path before goal.now)) }
+        → result ≡ (spec.is_dead_pair design.now goal.now && not (paths.is_on_path before goal.now)) }
     ensures marked { (before : Items Literal) → AreMarks design.now.net.channels before marks.old
         → IsTrue result → AreMarks design.now.net.channels (before ++ goal.now ∷ []) marks.new }
     ensures whole { length marks.new ≡ length marks.old }

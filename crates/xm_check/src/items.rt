@@ -16,7 +16,7 @@ use crate::sums::Sums;
 use std::alloc::Global;
 use xm_design::Design;
 use xm_flow::Invariant;
-use xm_lits::{Lit, on_path};
+use xm_lits::{Lit, is_on_path};
 use xm_model::{List, OutOfMemory, Prim};
 use xm_proof::{Item, Reason};
 use xm_rows::Entry;
@@ -252,7 +252,7 @@ fn add_item(
             add_made(sums, &made, times)
         }
         Item::Path(lit, times) => {
-            demand(on_path(path, &lit), Reason::Absent)?;
+            demand(is_on_path(path, &lit), Reason::Absent)?;
             let made = literal_made(alloc, design, &lit)?;
             add_made(sums, &made, times)
         }

@@ -19,7 +19,7 @@ use std::alloc::Global;
 use xm_design::Design;
 use xm_flow::Invariant;
 use xm_lits::{
-    Lit, Rule, RuleName, all_on_path, idle_lits, offered, on_path, opposed, outside, rules,
+    Lit, Rule, RuleName, are_on_path, idle_lits, is_offered, is_on_path, are_opposed, is_outside, rules,
 };
 use xm_model::List;
 use xm_proof::{Goal, Node, Reason};
@@ -127,7 +127,7 @@ fn check_split(
 ) -> Result<List<List<Lit>>, Stop>
     ensures { Gives (λ alternatives. tests.longer path.now (alternatives_of alternatives.items)) result (broken.step_test design.now [] [] path.now (argument.Split name on.now via kids)) }
 {
-    demand(on_path(path, on), Reason::Absent)?;
+    demand(is_on_path(path, on), Reason::Absent)?;
     let rule = find(alloc, design, name, on, via)?;
     let whole = rule.alternatives.len() == kids as usize;
     demand(whole, Reason::Alternatives)?;
@@ -140,12 +140,12 @@ fn check_clash(design: &Design, path: &[Lit], one: &Lit, other: Option<Lit>) -> 
 {
     match other {
         None => {
-            demand(on_path(path, one), Reason::Absent)?;
-            demand(outside(design, one), Reason::Clash)
+            demand(is_on_path(path, one), Reason::Absent)?;
+            demand(is_outside(design, one), Reason::Clash)
         }
         Some(other) => {
-            demand(on_path(path, one) && on_path(path, &other), Reason::Absent)?;
-            demand(opposed(one, &other), Reason::Clash)
+            demand(is_on_path(path, one) && is_on_path(path, &other), Reason::Absent)?;
+            demand(are_opposed(one, &other), Reason::Clash)
         }
     }
 }
@@ -155,8 +155,8 @@ fn check_eager(alloc: Global, design: &Design, path: &[Lit], c: u32) -> Result<(
     ensures { Gives (λ _. []) result (broken.step_test design.now [] [] path.now (argument.Eager c)) }
 {
     let idle = idle_lits(alloc, design, c)?;
-    demand(all_on_path(path, idle.as_slice()), Reason::Absent)?;
-    demand(offered(design, c), Reason::Clash)
+    demand(are_on_path(path, idle.as_slice()), Reason::Absent)?;
+    demand(is_offered(design, c), Reason::Clash)
 }
 
 /// Whether the goal at this place stands on the path.
@@ -164,7 +164,7 @@ fn cited(before: &[Goal], path: &[Lit], place: u32) -> bool
     ensures { result ≡ broken.some_on_path path.now (slice_get (map (λ goal. goal.lit) before.now) place) }
 {
     match before.get(place as usize) {
-        Some(goal) => on_path(path, &goal.lit),
+        Some(goal) => is_on_path(path, &goal.lit),
         None => false,
     }
 }

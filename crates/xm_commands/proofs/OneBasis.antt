@@ -1,8 +1,6 @@
 -- A document has one list of flow rows, and `inv` one text or one overflow.
-use Rattle.std.proofs.Common.{◌≡◌, ◌∙◌, ℕ, List, [], ◌∷◌, ◌+◌, ◌++◌, length, map, slice_get, sym, ap, ap₂, subst, codes, refl}
-use Rattle.std.proofs.lemmas.List.{ext_get_or, length-map}
-use Rattle.std.proofs.lemmas.List.Concat.{flat_map-cons}
-use Rattle.std.specs.Fmt.{signed_decimal}
+use Rattle.std.proofs.Common.{◌≡◌, ◌∙◌, ℕ, List, [], ◌+◌, ◌++◌, length, map, slice_get, sym, ap, ap₂, subst, codes}
+use Rattle.std.proofs.lemmas.List.{ext_get_or}
 use Rattle.std.specs.List.{flat_map}
 use Rattle.xm_colours.specs.Family.{AreColours, colours_at}
 use Rattle.xm_colours.specs.Pairs.{pairs, queue_pairs}
@@ -11,18 +9,16 @@ use Rattle.xm_commands.specs.Output.{AreInvariants, HasFlow, IsDesignOf}
 use Rattle.xm_design.specs.Designed.{Designed}
 use Rattle.xm_elim.specs.Basis.{AreOver}
 use Rattle.xm_elim.specs.Determined.{OneEnd, OneOverflow}
-use Rattle.xm_elim.specs.Elimination.{Eliminates, ExclusiveEnds, MeetsOverflow}
+use Rattle.xm_elim.specs.Elimination.{Eliminates, ExclusiveEnds, ElimOverflows}
 use Rattle.xm_flow.specs.FlowRows.{AreFlowRows, Column, Flow, FlowRow, IsNumbered, columns, count_of, flow_rows, moves_of, rows_from}
 use Rattle.xm_flow.specs.Holding.{pair_count, queue_pair_count}
 use Rattle.xm_flow.specs.Lemmas.OneFlow.{one_flow}
 use Rattle.xm_flow.specs.Lemmas.Within.{rows_within}
 use Rattle.xm_flow.specs.ValidLemma.{Lemma}
-use Rattle.xm_model.specs.Naming.{Naming}
 use Rattle.xm_model.specs.Net.{Network}
-use Rattle.xm_model.specs.TextLines.{line}
 use Rattle.xm_netlist.specs.Doc.{Doc}
 use Rattle.xm_report.specs.Check.{count_line}
-use Rattle.xm_report.specs.Invariants.{invariant_line, invariant_text, term_text}
+use Rattle.xm_report.specs.Invariants.{invariant_line, invariant_text}
 use Rattle.xm_rows.specs.Row.{SparseRow}
 
 -- ---- designs of one document
@@ -74,38 +70,22 @@ module _ (doc : Doc) (a b : Designed) (is_a : IsDesignOf doc a) (is_b : IsDesign
       subst (λ (rows : List SparseRow). P (pair_count a) (queue_pair_count a) rows) (sym (same_flow f g has_f has_g))
       (subst (λ (n : ℕ). P (pair_count a) n g.rows) (sym same_counts) (subst (λ (n : ℕ). P n (queue_pair_count b) g.rows) (sym same_pairs) h))
 
-  pub same_lemmas : OneEnd → (ls ks : List Lemma) → AreInvariants a ls → AreInvariants b ks → map (λ (it : Lemma). it.row) ls ≡ map (λ (it : Lemma). it.row) ks
+  pub same_lemmas : OneEnd → (ls ks : List Lemma) → AreInvariants a ls → AreInvariants b ks → ls ≡ ks
   same_lemmas one ls ks p q =
-      one (pair_count a) (queue_pair_count a) p.rows.rows ls ks (over p.rows p.has_flow) p.left
-      (of_other (λ m n rows. Eliminates m n rows ks) p.rows q.rows p.has_flow q.has_flow q.left)
+      one (pair_count a) (queue_pair_count a) p.rows.rows ls ks (over p.rows p.has_flow) p.left.eliminates
+      (of_other (λ m n rows. Eliminates m n rows ks) p.rows q.rows p.has_flow q.has_flow q.left.eliminates)
 
-  pub not_both_ends : ExclusiveEnds → (ls : List Lemma) (g : Flow) (r s : SparseRow) (column : ℕ) → AreInvariants a ls → HasFlow b g → MeetsOverflow (pair_count b) (queue_pair_count b) g.rows r s column → ⊥
+  pub not_both_ends : ExclusiveEnds → (ls : List Lemma) (g : Flow) (r s : SparseRow) (column : ℕ) → AreInvariants a ls → HasFlow b g → ElimOverflows (pair_count b) (queue_pair_count b) g.rows r s column → ⊥
   not_both_ends exclusive ls g r s column p has meets =
-      exclusive (pair_count a) (queue_pair_count a) p.rows.rows ls r s column p.left
-      (of_other (λ m n rows. MeetsOverflow m n rows r s column) p.rows g p.has_flow has meets)
+      exclusive (pair_count a) (queue_pair_count a) p.rows.rows ls r s column (over p.rows p.has_flow) p.left
+      (of_other (λ m n rows. ElimOverflows m n rows r s column) p.rows g p.has_flow has meets)
 
-  pub same_overflow : OneOverflow → (f g : Flow) (r s t u : SparseRow) (column other : ℕ) → HasFlow a f → HasFlow b g → MeetsOverflow (pair_count a) (queue_pair_count a) f.rows r s column
-      → MeetsOverflow (pair_count b) (queue_pair_count b) g.rows t u other → column ≡ other
+  pub same_overflow : OneOverflow → (f g : Flow) (r s t u : SparseRow) (column other : ℕ) → HasFlow a f → HasFlow b g → ElimOverflows (pair_count a) (queue_pair_count a) f.rows r s column
+      → ElimOverflows (pair_count b) (queue_pair_count b) g.rows t u other → column ≡ other
   same_overflow one f g r s t u column other has_f has_g p q =
-      one (pair_count a) (queue_pair_count a) f.rows r s t u column other p (of_other (λ m n rows. MeetsOverflow m n rows t u other) f g has_f has_g q)
+      one (pair_count a) (queue_pair_count a) f.rows r s t u column other (over f has_f) p (of_other (λ m n rows. ElimOverflows m n rows t u other) f g has_f has_g q)
 
-  -- ---- the text is that of the rows
-
-  lines_same : (names : Naming) (qs : List (ℕ × ℕ)) (ls ks : List Lemma) → map (λ (it : Lemma). it.row) ls ≡ map (λ (it : Lemma). it.row) ks → flat_map (invariant_line names qs) ls ≡ flat_map (invariant_line names qs) ks
-  lines_same names qs [] [] same = refl
-  lines_same names qs [] (k ∷ ks) same = cc
-  lines_same names qs (l ∷ ls) [] same = cc
-  lines_same names qs (l ∷ ls) (k ∷ ks) same =
-      let here : l.row ≡ k.row = cc in
-      let rest = lines_same names qs ls ks (cc) in
-      flat_map-cons (invariant_line names qs) l ls ∙ ap₂ (λ (x y : List ℕ). x ++ y) (line_same l k here) rest ∙ sym (flat_map-cons (invariant_line names qs) k ks)
-    where
-      line_same : (l k : Lemma) → l.row ≡ k.row → invariant_line names qs l ≡ invariant_line names qs k
-      line_same l k is = ap (λ (row : SparseRow). line (codes "inv" ++ flat_map (term_text names qs) row.entries ++ codes " = " ++ signed_decimal row.constant)) is
-
+  -- and one text
   pub same_text : OneEnd → (ls ks : List Lemma) → AreInvariants a ls → AreInvariants b ks → invariant_text doc.names a ls ≡ invariant_text doc.names b ks
   same_text one ls ks p q =
-      let rows = same_lemmas one ls ks p q in
-      let len : length ls ≡ length ks = sym (length-map ls (λ (it : Lemma). it.row)) ∙ ap length rows ∙ length-map ks (λ (it : Lemma). it.row) in
-      let lines = lines_same doc.names (queue_pairs (colours_at a.colours) 0 a.net.prims) ls ks rows ∙ ap (λ (qs : List (ℕ × ℕ)). flat_map (invariant_line doc.names qs) ks) same_queue_pairs in
-      ap₂ (λ (x : List ℕ) (n : ℕ). x ++ count_line (codes "end") n) lines len
+      ap₂ (λ (qs : List (ℕ × ℕ)) (lemmas : List Lemma). flat_map (invariant_line doc.names qs) lemmas ++ count_line (codes "end") (length lemmas)) same_queue_pairs (same_lemmas one ls ks p q)

@@ -6,7 +6,7 @@ use Rattle.xm_commands.specs.declared.command.Command.{Command}
 use Rattle.xm_commands.specs.declared.command.Command.TheVariants as command
 use Rattle.xm_design.specs.Designed.{Designed, IsDesigned}
 use Rattle.xm_elim.specs.Basis.{IsReducedBasis}
-use Rattle.xm_elim.specs.Elimination.{Eliminates}
+use Rattle.xm_elim.specs.Elimination.{EndsWith}
 use Rattle.xm_flow.specs.FlowRows.{Flow, IsKept}
 use Rattle.xm_flow.specs.Holding.{IsFlowOf, most_pairs, pair_count, queue_pair_count}
 use Rattle.xm_flow.specs.ValidLemma.{Lemma}
@@ -30,11 +30,11 @@ pub record HasFlow (design : Designed) (flow : Flow) : Type 0 where
   pub kept : IsKept flow
   pub is_flow : IsFlowOf design flow
 
--- what the elimination leaves of the flow rows: a reduced basis of all that they say of packets alone
+-- what the elimination of the flow rows ends with: a reduced basis of all that they say of packets alone
 pub record AreInvariants (design : Designed) (lemmas : List Lemma) : Type 0 where
   pub rows : Flow
   pub has_flow : HasFlow design rows
-  pub left : Eliminates (pair_count design) (queue_pair_count design) rows.rows lemmas
+  pub left : EndsWith (pair_count design) (queue_pair_count design) rows.rows lemmas
   pub basis : IsReducedBasis (pair_count design) (queue_pair_count design) rows.rows lemmas
 
 -- The output of a command for the bytes of a document: of `check` the sizes and colours of its design, of `run` the

@@ -4,7 +4,7 @@ use Rattle.xm_commands.specs.Output.{HasFlow, IsDesignOf}
 use Rattle.xm_commands.specs.declared.command.Command.{Command}
 use Rattle.xm_commands.specs.declared.command.Command.TheVariants as command
 use Rattle.xm_design.specs.Designed.{Designed, IsColourRefused, IsLoopRefused}
-use Rattle.xm_elim.specs.Elimination.{MeetsOverflow}
+use Rattle.xm_elim.specs.Elimination.{ElimOverflows}
 use Rattle.xm_flow.specs.FlowRows.{Flow}
 use Rattle.xm_flow.specs.Holding.{most_pairs, pair_count, queue_pair_count}
 use Rattle.xm_netlist.specs.Doc.{Doc}
@@ -37,5 +37,5 @@ pub data Refuses (bytes : List ℕ) : Command → ℕ → List ℕ → Type 0 wh
       → most_pairs < pair_count design → Refuses bytes command.Inv 4 (width_line (pair_count design))
   of_overflow : (doc : Doc) (design : Designed) (flow : Flow) (r s : SparseRow) (column : ℕ)
       → document_in bytes ≡ Ok doc → IsDesignOf doc design → HasFlow design flow
-      → MeetsOverflow (pair_count design) (queue_pair_count design) flow.rows r s column
+      → ElimOverflows (pair_count design) (queue_pair_count design) flow.rows r s column
       → Refuses bytes command.Inv 8 (overflow_line column)

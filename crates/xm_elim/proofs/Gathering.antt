@@ -15,7 +15,6 @@ use Rattle.xm_elim.specs.declared.work.Status.TheVariants.{Pivot}
 use Rattle.xm_elim.specs.declared.work.Working.{Working}
 use Rattle.xm_model.specs.Membership.{IsIn}
 use Rattle.xm_order.specs.Lemmas.Items.{get-append_left, get-push_last, push_cases}
-use Rattle.xm_elim.proofs.Adding.{not_true}
 use Rattle.xm_elim.proofs.Looking.{never}
 use Rattle.xm_elim.proofs.Passing.{same_item}
 use Rattle.xm_elim.proofs.Placing.{in_push}
@@ -50,7 +49,7 @@ tested_more flow rows ps ls r l None false place column len at test h =
       i = length ls;
       it = l;
       at = get-push_last ls l;
-      fails = λ fits. not_true false (test.1 fits) refl;
+      fails = λ fits. never false (test.1 fits) refl;
       earlier = λ j m less at_m. elim (push_cases ls l j m at_m) [
         | inl early ↦ all_at (TestFits flow) ls j m h early
         | inr last ↦ let e = last.0 in absurd (omega arith)

@@ -12,7 +12,6 @@ mod Reducing
 mod Bases
 mod Looking
 mod Placing
-mod Adding
 mod Covering
 mod Ordering
 mod Replacing

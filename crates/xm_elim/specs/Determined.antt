@@ -13,5 +13,6 @@ OneEnd = (moves counts : ℕ) (flow : List SparseRow) (lemmas others : List Lemm
 
 -- the first overflow lies in one column
 abbrev pub OneOverflow : Type 0
-OneOverflow = (moves counts : ℕ) (flow : List SparseRow) (r s t u : SparseRow) (column other : ℕ) → AreOver (moves + counts) flow
+OneOverflow = (moves counts : ℕ) (flow : List SparseRow) (r s t u : SparseRow) (column other : ℕ) →
+    AreOver (moves + counts) flow
     → ElimOverflows moves counts flow r s column → ElimOverflows moves counts flow t u other → column ≡ other

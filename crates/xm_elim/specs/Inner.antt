@@ -1,4 +1,3 @@
 -- What private clauses cite, and no public one.
 pub mod Columns
 pub mod Places
-pub mod Testing

@@ -4,7 +4,7 @@ ghost use Rattle.std.specs.Prelude.{◌≡◌, ◌≢◌, ◌↔◌, ◌<◌, �
 ghost use Rattle.xm_elim.specs.Inner.Columns.{Covers, columns_of};
 ghost use Rattle.xm_elim.specs.Inner.Places as spec;
 ghost use Rattle.xm_elim.specs.Inner.Places.{AreGathered, Leads};
-ghost use Rattle.xm_elim.specs.Inner.Testing.{AreBelow};
+ghost use Rattle.xm_flow.specs.Slots.{AreBelow};
 ghost use Rattle.xm_elim.specs.Basis.{AreOver};
 ghost use Rattle.xm_elim.specs.Elimination.{IsParted};
 ghost use Rattle.xm_elim.specs.declared.work.Status.TheVariants as status;
@@ -14,10 +14,9 @@ ghost use Rattle.xm_model.specs.Membership.{IsIn};
 ghost use Rattle.xm_rows.specs.Row.{coefficient};
 
 use crate::part::part;
-use crate::testing::{Slot, fits, slots};
 use crate::work::{Status, Working};
 use std::alloc::Global;
-use xm_flow::Invariant;
+use xm_flow::{Invariant, Slot, test_fits, test_slots};
 use xm_model::{List, OutOfMemory};
 use xm_rows::Row;
 
@@ -33,9 +32,12 @@ fn is_pivot_of(it: Status, column: u32) -> bool
 /// The row that was the pivot of a column of packets, if there is one, by the places that are noted for it.
 fn pivot_at(rows: &[Working], noted: &[u32], column: u32) -> Option<u32>
     requires within { All (λ p. p < length rows.now) noted.now }
-    requires covers { (i : ℕ) (w : Working) → slice_get rows.now i ≡ Some w → w.status ≡ status.Pivot column → IsIn noted.now i }
-    ensures none { IfNone result ((i : ℕ) (w : Working) → slice_get rows.now i ≡ Some w → w.status ≢ status.Pivot column) }
-    ensures some { IfSome result (λ i. (w : Working) × ((slice_get rows.now i ≡ Some w) × (w.status ≡ status.Pivot column))) }
+    requires covers { (i : ℕ) (w : Working) → slice_get rows.now i ≡ Some w → w.status ≡ status.Pivot column →
+        IsIn noted.now i }
+    ensures none { IfNone result ((i : ℕ) (w : Working) → slice_get rows.now i ≡ Some w →
+        w.status ≢ status.Pivot column) }
+    ensures some { IfSome result (λ i. (w : Working) × ((slice_get rows.now i ≡ Some w)
+        × (w.status ≡ status.Pivot column))) }
     ensures within { IfSome result (λ i. i < length rows.now) }
 {
     for p in noted {
@@ -86,7 +88,7 @@ fn tested_lemma(
 {
     let _row = row.entries();
     let lemma = part(alloc, row, moves, counts, column)?;
-    let fits = fits(slots, n, flow, &lemma);
+    let fits = test_fits(slots, n, flow, &lemma);
     Ok((lemma, fits))
 }
 
@@ -107,11 +109,12 @@ pub fn gather(
         → Leads moves (moves + counts) k w.row }
     requires bounded { (j : ℕ) (w : Working) (k : ℕ) → slice_get rows.now j ≡ Some w
         → moves + counts + length flow.now ≤ k → coefficient w.row.entries k ≡ pos 0 }
-    ensures { IfOk result (λ it. AreGathered moves counts flow.now rows.now counts (map lemma_of it.lemmas.items) it.failed) }
+    ensures { IfOk result (λ it.
+        AreGathered moves counts flow.now rows.now counts (map lemma_of it.lemmas.items) it.failed) }
 {
     let mut lemmas = List::new(alloc);
     let mut failed = None;
-    let mut held = slots(alloc, moves + counts)?;
+    let mut held = test_slots(alloc, moves + counts)?;
     let slots = held.as_mut_slice();
     for n in 0..counts {
         let column = moves + n;

@@ -32,32 +32,32 @@ module _ (a b out : ℕ) (pref : ℕ → Side) (φ : ℕ → Signals) (run : Mer
   -- a stalled grant and its offer stay
   pub a_holds : (t d : ℕ) → Stays a φ → granted t ≡ Some A → (φ t).offer a ≡ Some d → (φ t).ready out ≡ false →
       (granted (suc t) ≡ Some A) × ((φ (suc t)).offer a ≡ Some d)
-  a_holds t d stays is offered stuck =
+  a_holds t d stays is is_offered stuck =
       let e = run.equation t in
       let not_in : (φ t).ready a ≡ false = e.ready_a ∙ and_right (is_a (grant (pref t) ((φ t).offer a) ((φ t).offer b))) ((φ t).ready out) stuck in
-      let again : (φ (suc t)).offer a ≡ Some d = stays t d offered not_in in
+      let again : (φ (suc t)).offer a ≡ Some d = stays t d is_offered not_in in
       let turn : pref (suc t) ≡ A = run.step t ∙ rw (is, stuck) in
       (rw (turn, again), again)
 
   pub b_holds : (t d : ℕ) → Stays b φ → granted t ≡ Some B → (φ t).offer b ≡ Some d → (φ t).ready out ≡ false →
       (granted (suc t) ≡ Some B) × ((φ (suc t)).offer b ≡ Some d)
-  b_holds t d stays is offered stuck =
+  b_holds t d stays is is_offered stuck =
       let e = run.equation t in
       let not_in : (φ t).ready b ≡ false = e.ready_b ∙ and_right (is_b (grant (pref t) ((φ t).offer a) ((φ t).offer b))) ((φ t).ready out) stuck in
-      let again : (φ (suc t)).offer b ≡ Some d = stays t d offered not_in in
+      let again : (φ (suc t)).offer b ≡ Some d = stays t d is_offered not_in in
       let turn : pref (suc t) ≡ B = run.step t ∙ rw (is, stuck) in
       (rw (turn, again), again)
 
   a_forever : (d : ℕ) → Stays a φ → Dead out d φ → granted 0 ≡ Some A → (φ 0).offer a ≡ Some d → (t : ℕ) → (granted t ≡ Some A) × ((φ t).offer a ≡ Some d)
-  a_forever d stays dead is offered zero = (is, offered)
-  a_forever d stays dead is offered (suc t) =
-      let before = a_forever d stays dead is offered t in
+  a_forever d stays dead is is_offered zero = (is, is_offered)
+  a_forever d stays dead is is_offered (suc t) =
+      let before = a_forever d stays dead is is_offered t in
       a_holds t d stays before.0 before.1 (dead t).1
 
   b_forever : (d : ℕ) → Stays b φ → Dead out d φ → granted 0 ≡ Some B → (φ 0).offer b ≡ Some d → (t : ℕ) → (granted t ≡ Some B) × ((φ t).offer b ≡ Some d)
-  b_forever d stays dead is offered zero = (is, offered)
-  b_forever d stays dead is offered (suc t) =
-      let before = b_forever d stays dead is offered t in
+  b_forever d stays dead is is_offered zero = (is, is_offered)
+  b_forever d stays dead is is_offered (suc t) =
+      let before = b_forever d stays dead is is_offered t in
       b_holds t d stays before.0 before.1 (dead t).1
 
   -- a dead output has a dead side

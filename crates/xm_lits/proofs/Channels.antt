@@ -121,7 +121,7 @@ module _ (φ : ℕ → Signals) (n : ℕ) (is_long : 0 < n) (again : (t : ℕ) �
         let both = and_parts (is_some ((φ 0).offer a)) (is_some ((φ 0).offer b)) o.0 in
         let x = is_some_true ((φ 0).offer a) both.0 in
         let y = is_some_true ((φ 0).offer b) both.1 in
-        let sides = of_side pass x.0 y.0 in let on_a = x.1 in let on_b = y.1 in let offered = o.1 in (
+        let sides = of_side pass x.0 y.0 in let on_a = x.1 in let on_b = y.1 in let is_offered = o.1 in (
           x.0,
           y.0,
           (

@@ -12,7 +12,7 @@ use Rattle.xm_lits.proofs.Channels.{dead_when}
 use Rattle.xm_lits.proofs.Sound.{dead_sound_above, dead_sound_below, idle_sound, sound-append, stuck_sound}
 use Rattle.xm_lits.proofs.Unroll.{at_own_place, below, first_place, frames_again, frames_for_ever, states_again, steps_for_ever}
 use Rattle.std.proofs.lemmas.Bool.{and_parts, eq-eqb, eqb-true, ltb-false, ltb-true}
-use Rattle.xm_lits.specs.Clashes.{IsClash, all_idle, is_offering, lacks_colour, offers_again, one_offers, one_outside, opposed, outside, two_opposed}
+use Rattle.xm_lits.specs.Clashes.{IsClash, all_idle, is_offering, lacks_colour, offers_again, one_offers, one_outside, are_opposed, is_outside, two_opposed}
 use Rattle.xm_lits.specs.Inference.{Inference, by_one, has_colour, by_prim, idle_rules, offering_rules, passing_rules, rules_at, stuck_rules}
 use Rattle.xm_lits.specs.Laws.{ClashesHold, IsFairRun, JamsAreDead, RulesHold}
 use Rattle.xm_lits.specs.Repeating.{AllOf, Holds, IsJammed, Repetition, SomeOf}
@@ -195,7 +195,7 @@ module _ (grants : GrantsHold) (forks : ForksTarget) (coloured : ColoursHold) (i
       let both = and_parts (nat_eq c e) (nat_eq d f) test in let x = eqb-true c e both.0 in let y = eqb-true d f both.1 in
       idle 0 (ap (frames 0).offer (sym x) ∙ (dead 0).0 ∙ ap Some y)
 
-  opposed_fails : (l m : Lit) → opposed l m ≡ true → forever.Holds it.net states frames l → forever.Holds it.net states frames m → ⊥
+  opposed_fails : (l m : Lit) → are_opposed l m ≡ true → forever.Holds it.net states frames l → forever.Holds it.net states frames m → ⊥
   opposed_fails (Dead c d) (Idle e f) test on_l on_m = dead_idle_fails c d e f test on_l on_m
   opposed_fails (Idle c d) (Dead e f) test on_l on_m =
       let both = and_parts (nat_eq c e) (nat_eq d f) test in let x = eqb-true c e both.0 in let y = eqb-true d f both.1 in
@@ -221,7 +221,7 @@ module _ (grants : GrantsHold) (forks : ForksTarget) (coloured : ColoursHold) (i
       not_outside (colours_at it.colours out) d (for_ever.packets q input out capacity at.0 d initial has at.1) (not_true (has_colour (colours_at it.colours out) d) test)
   queue_fails q d _ has test on = true_false (sym test)
 
-  outside_fails : (l : Lit) → outside it l ≡ true → forever.Holds it.net states frames l → ⊥
+  outside_fails : (l : Lit) → is_outside it l ≡ true → forever.Holds it.net states frames l → ⊥
   outside_fails (Dead c d) test on =
       let both = and_parts (nat_lt c it.net.channels) (not (has_colour (colours_at it.colours c) d)) test in
       not_outside (colours_at it.colours c) d (for_ever.coloured 0 c d (ltb-true c it.net.channels both.0) (on 0).0) (not_true (has_colour (colours_at it.colours c) d) both.1)

@@ -5,9 +5,9 @@ use Rattle.std.specs.Prelude.{◌⊎◌}
 use Rattle.xm_colours.specs.Family.{Rises, colours_at}
 use Rattle.xm_design.specs.Designed.{Designed, IsDesigned}
 use Rattle.xm_lits.proofs.Rising.{has_from, up_to, up_to-in, up_to-out}
-use Rattle.xm_lits.specs.Clashes.{IsClash, all_idle, is_offering, offered, one_offers, one_outside, opposed, outside, two_opposed}
+use Rattle.xm_lits.specs.Clashes.{IsClash, all_idle, is_offering, is_offered, one_offers, one_outside, are_opposed, is_outside, two_opposed}
 use Rattle.xm_lits.specs.Inference.{has_colour, idle_all}
-use Rattle.xm_lits.specs.Paths.{all_on_path, any_idle_clash, any_opposed, any_outside, any_pair, idle_clash, on_path, same_lit}
+use Rattle.xm_lits.specs.Paths.{are_on_path, any_idle_clash, any_opposed, any_outside, any_pair, idle_clash, is_on_path, are_same}
 use Rattle.xm_lits.specs.declared.literal.Lit.{Lit}
 use Rattle.xm_lits.specs.declared.literal.Lit.TheVariants.{Stuck, Dead, Idle, Full, Has, Lacks}
 use Rattle.xm_model.specs.Component.{Component}
@@ -21,7 +21,7 @@ use Rattle.xm_model.specs.Membership.{IsIn, times}
 true_false : true ≡ false → ⊥
 true_false e = cc
 
-lit_from : (l m : Lit) → same_lit l m ≡ true → l ≡ m
+lit_from : (l m : Lit) → are_same l m ≡ true → l ≡ m
 lit_from (Stuck c) (Stuck e) h = ap Stuck (eqb-true c e h)
 lit_from (Dead c d) (Dead e f) h = let both = and_parts _ _ h in let x = eqb-true c e both.0 in let y = eqb-true d f both.1 in cc
 lit_from (Idle c d) (Idle e f) h = let both = and_parts _ _ h in let x = eqb-true c e both.0 in let y = eqb-true d f both.1 in cc
@@ -32,19 +32,19 @@ lit_from _ _ h = cc
 
 -- a test that no literal of the path meets
 none_met : (test : Lit → Bool) (any : List Lit → Bool) → ((l : Lit) (ls : List Lit) → any (l ∷ ls) ≡ (test l || any ls)) →
-    (ls : List Lit) (l : Lit) → on_path ls l ≡ true → test l ≡ true → any ls ≡ true
+    (ls : List Lit) (l : Lit) → is_on_path ls l ≡ true → test l ≡ true → any ls ≡ true
 none_met test any unfolds [] l on met = absurd (true_false (sym on))
 none_met test any unfolds (x ∷ xs) l on met =
-    unfolds x xs ∙ elim (or_cases (same_lit x l) (on_path xs l) on) [
+    unfolds x xs ∙ elim (or_cases (are_same x l) (is_on_path xs l) on) [
       | inl same ↦ or_left (test x) (any xs) (subst (λ (y : Lit). test y ≡ true) (sym (lit_from x l same)) met)
       | inr rest ↦ or_right (test x) (any xs) (none_met test any unfolds xs l rest met)
     ]
 
-all-append : (path xs ys : List Lit) → all_on_path path xs ≡ true → all_on_path path ys ≡ true → all_on_path path (xs ++ ys) ≡ true
+all-append : (path xs ys : List Lit) → are_on_path path xs ≡ true → are_on_path path ys ≡ true → are_on_path path (xs ++ ys) ≡ true
 all-append path [] ys hx hy = hy
 all-append path (x ∷ xs) ys hx hy =
-    let both = and_parts (on_path path x) (all_on_path path xs) hx in
-    and_from (on_path path x) (all_on_path path (xs ++ ys)) both.0 (all-append path xs ys both.1 hy)
+    let both = and_parts (is_on_path path x) (are_on_path path xs) hx in
+    and_from (is_on_path path x) (are_on_path path (xs ++ ys)) both.0 (all-append path xs ys both.1 hy)
 
 map-append : (c : ℕ) (xs ys : List ℕ) → map (λ d. Idle c d) (xs ++ ys) ≡ map (λ d. Idle c d) xs ++ map (λ d. Idle c d) ys
 map-append c [] ys = refl
@@ -63,36 +63,36 @@ out_from : (ds : List ℕ) (d : ℕ) → has_colour ds d ≡ false → IsIn ds d
 out_from ds d h inside = true_false (sym (has_from ds d inside) ∙ h)
 
 -- those below d go on with d
-pub idle_goes_on : (path : List Lit) (c d : ℕ) (ds : List ℕ) → Rises ds → all_on_path path (map (λ e. Idle c e) (up_to d ds)) ≡ true → (has_colour ds d && not (on_path path (Idle c d))) ≡ false →
-    all_on_path path (map (λ e. Idle c e) (up_to (d + 1) ds)) ≡ true
+pub idle_goes_on : (path : List Lit) (c d : ℕ) (ds : List ℕ) → Rises ds → are_on_path path (map (λ e. Idle c e) (up_to d ds)) ≡ true → (has_colour ds d && not (is_on_path path (Idle c d))) ≡ false →
+    are_on_path path (map (λ e. Idle c e) (up_to (d + 1) ds)) ≡ true
 idle_goes_on path c d ds rise so_far test = elim (cases_Bool (has_colour ds d)) [
   | inl there ↦ (
-      let here : on_path path (Idle c d) ≡ true = shown (on_path path (Idle c d)) (ap (λ (b : Bool). b && not (on_path path (Idle c d))) (sym there) ∙ test) in
-      ap (λ (l : List ℕ). all_on_path path (map (λ e. Idle c e) l)) (up_to-in d ds rise (in_from ds d there))
-      ∙ ap (all_on_path path) (map-append c (up_to d ds) (d ∷ []))
-      ∙ all-append path (map (λ e. Idle c e) (up_to d ds)) (Idle c d ∷ []) so_far (and_from (on_path path (Idle c d)) true here refl)
+      let here : is_on_path path (Idle c d) ≡ true = shown (is_on_path path (Idle c d)) (ap (λ (b : Bool). b && not (is_on_path path (Idle c d))) (sym there) ∙ test) in
+      ap (λ (l : List ℕ). are_on_path path (map (λ e. Idle c e) l)) (up_to-in d ds rise (in_from ds d there))
+      ∙ ap (are_on_path path) (map-append c (up_to d ds) (d ∷ []))
+      ∙ all-append path (map (λ e. Idle c e) (up_to d ds)) (Idle c d ∷ []) so_far (and_from (is_on_path path (Idle c d)) true here refl)
       )
-  | inr none ↦ ap (λ (l : List ℕ). all_on_path path (map (λ e. Idle c e) l)) (up_to-out d ds (out_from ds d none)) ∙ so_far
+  | inr none ↦ ap (λ (l : List ℕ). are_on_path path (map (λ e. Idle c e) l)) (up_to-out d ds (out_from ds d none)) ∙ so_far
 ] where
   shown : (b : Bool) → not b ≡ false → b ≡ true
   shown true h = refl
   shown false h = absurd (true_false h)
 
 -- one colour of which the channel is not said to be idle
-pub one_lacking : (path : List Lit) (c d : ℕ) (ds : List ℕ) → (has_colour ds d && not (on_path path (Idle c d))) ≡ true → all_on_path path (map (λ e. Idle c e) ds) ≡ false
+pub one_lacking : (path : List Lit) (c d : ℕ) (ds : List ℕ) → (has_colour ds d && not (is_on_path path (Idle c d))) ≡ true → are_on_path path (map (λ e. Idle c e) ds) ≡ false
 one_lacking path c d ds test =
-    let both = and_parts (has_colour ds d) (not (on_path path (Idle c d))) test in
-    elim (cases_Bool (all_on_path path (map (λ e. Idle c e) ds))) [
+    let both = and_parts (has_colour ds d) (not (is_on_path path (Idle c d))) test in
+    elim (cases_Bool (are_on_path path (map (λ e. Idle c e) ds))) [
       | inl all ↦ absurd (true_false (sym both.1 ∙ ap not (each ds (in_from ds d both.0) all)))
       | inr none ↦ none
     ] where
-      each : (xs : List ℕ) → IsIn xs d → all_on_path path (map (λ e. Idle c e) xs) ≡ true → on_path path (Idle c d) ≡ true
+      each : (xs : List ℕ) → IsIn xs d → are_on_path path (map (λ e. Idle c e) xs) ≡ true → is_on_path path (Idle c d) ≡ true
       each [] inside all = absurd inside
-      each (x ∷ xs) (inl same) all = subst (λ (e : ℕ). on_path path (Idle c e) ≡ true) same (and_parts (on_path path (Idle c x)) (all_on_path path (map (λ e. Idle c e) xs)) all).0
-      each (x ∷ xs) (inr more) all = each xs more (and_parts (on_path path (Idle c x)) (all_on_path path (map (λ e. Idle c e) xs)) all).1
+      each (x ∷ xs) (inl same) all = subst (λ (e : ℕ). is_on_path path (Idle c e) ≡ true) same (and_parts (is_on_path path (Idle c x)) (are_on_path path (map (λ e. Idle c e) xs)) all).0
+      each (x ∷ xs) (inr more) all = each xs more (and_parts (is_on_path path (Idle c x)) (are_on_path path (map (λ e. Idle c e) xs)) all).1
 
 -- some colour of a channel on which such a source offers
-offers_one : (it : Designed) → IsDesigned it → (c : ℕ) → offered it c ≡ true → (d : ℕ) × IsIn (colours_at it.colours c) d
+offers_one : (it : Designed) → IsDesigned it → (c : ℕ) → is_offered it c ≡ true → (d : ℕ) × IsIn (colours_at it.colours c) d
 offers_one it is c h = by_list (initiators it.net.prims c) refl h where
   by_colours : (cs : List ℕ) → 0 < length cs → ((d : ℕ) → IsIn cs d → IsIn (colours_at it.colours c) d) → (d : ℕ) × IsIn (colours_at it.colours c) d
   by_colours [] some within = absurd (omega arith)
@@ -109,28 +109,28 @@ offers_one it is c h = by_list (initiators it.net.prims c) refl h where
       by_prim p initiator.prim initiator.has initiator.has_output (ap is_offering (sym initiator.has) ∙ test)
   by_list (p ∷ q ∷ ps) at test = absurd (true_false (sym test))
 
-idle_there : (path : List Lit) (c d : ℕ) (xs : List ℕ) → IsIn xs d → all_on_path path (map (λ e. Idle c e) xs) ≡ true → on_path path (Idle c d) ≡ true
+idle_there : (path : List Lit) (c d : ℕ) (xs : List ℕ) → IsIn xs d → are_on_path path (map (λ e. Idle c e) xs) ≡ true → is_on_path path (Idle c d) ≡ true
 idle_there path c d [] inside all = absurd inside
-idle_there path c d (x ∷ xs) (inl same) all = subst (λ (e : ℕ). on_path path (Idle c e) ≡ true) same (and_parts (on_path path (Idle c x)) (all_on_path path (map (λ e. Idle c e) xs)) all).0
-idle_there path c d (x ∷ xs) (inr more) all = idle_there path c d xs more (and_parts (on_path path (Idle c x)) (all_on_path path (map (λ e. Idle c e) xs)) all).1
+idle_there path c d (x ∷ xs) (inl same) all = subst (λ (e : ℕ). is_on_path path (Idle c e) ≡ true) same (and_parts (is_on_path path (Idle c x)) (are_on_path path (map (λ e. Idle c e) xs)) all).0
+idle_there path c d (x ∷ xs) (inr more) all = idle_there path c d xs more (and_parts (is_on_path path (Idle c x)) (are_on_path path (map (λ e. Idle c e) xs)) all).1
 
 refused : (b : Bool) → (b ≡ true → ⊥) → b ≡ false
 refused true no' = absurd (no' refl)
 refused false no' = refl
 
 pub no_clash : (it : Designed) → IsDesigned it → (path : List Lit) → any_pair path path ≡ false → any_outside it path ≡ false → any_idle_clash it path path ≡ false →
-    (ls : List Lit) → IsClash it ls → all_on_path path ls ≡ false
-no_clash it is path pairs outsides idles ls (two_opposed l m h) = refused (all_on_path path (l ∷ m ∷ [])) (λ all.
-    let first = and_parts (on_path path l) (on_path path m && true) all in
-    let second = and_parts (on_path path m) true first.1 in
-    let there = none_met (opposed l) (any_opposed l) (λ x xs. refl) path m second.0 h in
+    (ls : List Lit) → IsClash it ls → are_on_path path ls ≡ false
+no_clash it is path pairs outsides idles ls (two_opposed l m h) = refused (are_on_path path (l ∷ m ∷ [])) (λ all.
+    let first = and_parts (is_on_path path l) (is_on_path path m && true) all in
+    let second = and_parts (is_on_path path m) true first.1 in
+    let there = none_met (are_opposed l) (any_opposed l) (λ x xs. refl) path m second.0 h in
     let some = none_met (λ x. any_opposed x path) (any_pair path) (λ x xs. refl) path l first.0 there in
     true_false (sym some ∙ pairs))
-no_clash it is path pairs outsides idles ls (one_outside l h) = refused (all_on_path path (l ∷ [])) (λ all.
-    let first = and_parts (on_path path l) true all in
-    true_false (sym (none_met (outside it) (any_outside it) (λ x xs. refl) path l first.0 h) ∙ outsides))
-no_clash it is path pairs outsides idles ls (all_idle c h) = refused (all_on_path path (idle_all (colours_at it.colours) c)) (λ all.
+no_clash it is path pairs outsides idles ls (one_outside l h) = refused (are_on_path path (l ∷ [])) (λ all.
+    let first = and_parts (is_on_path path l) true all in
+    true_false (sym (none_met (is_outside it) (any_outside it) (λ x xs. refl) path l first.0 h) ∙ outsides))
+no_clash it is path pairs outsides idles ls (all_idle c h) = refused (are_on_path path (idle_all (colours_at it.colours) c)) (λ all.
     let one = offers_one it is c h in
     let on = idle_there path c one.0 (colours_at it.colours c) one.1 all in
-    let met : idle_clash it path (Idle c one.0) ≡ true = and_from (offered it c) (all_on_path path (idle_all (colours_at it.colours) c)) h all in
+    let met : idle_clash it path (Idle c one.0) ≡ true = and_from (is_offered it c) (are_on_path path (idle_all (colours_at it.colours) c)) h all in
     true_false (sym (none_met (idle_clash it path) (any_idle_clash it path) (λ x xs. refl) path (Idle c one.0) on met) ∙ idles))

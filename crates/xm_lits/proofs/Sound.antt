@@ -157,7 +157,7 @@ module _ (net : Network) (colours : ℕ → List ℕ) (n : ℕ) (w : ℕ → ℕ
       some_one net s φ (λ e. Dead out e ∷ []) (with_colour d (colours b)) x.0
       (elim x.2 [
         | inl same ↦ subst (λ (y : ℕ). IsIn (with_colour d (colours b)) y) (sym same) (in_with_itself d (colours b))
-        | inr offered ↦ in_with_other d x.0 (colours b) (fair.coloured 0 b x.0 below offered)
+        | inr is_offered ↦ in_with_other d x.0 (colours b) (fair.coloured 0 b x.0 below is_offered)
       ])
       (x.1, tt)
 

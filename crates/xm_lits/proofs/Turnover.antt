@@ -126,15 +126,15 @@ module _ (input out capacity : ℕ) (ps : ℕ → List ℕ) (φ : ℕ → Signal
       not_inside d t idle moves j next.0 next.1
 
   not_taken : (d t : ℕ) → Idle out d φ → goes t ≡ true → (i : ℕ) → (φ i).offer input ≡ Some d → (φ i).ready input ≡ false
-  not_taken d t idle moves i offered = false_from_ne_true ((φ i).ready input) (λ takes.
-      let arrives : move (φ i) input ≡ Some d = only_if-true ((φ i).ready input) ((φ i).offer input) takes ∙ offered in
+  not_taken d t idle moves i is_offered = false_from_ne_true ((φ i).ready input) (λ takes.
+      let arrives : move (φ i) input ≡ Some d = only_if-true ((φ i).ready input) ((φ i).offer input) takes ∙ is_offered in
       let there = arrived (left (ps i) (move (φ i) out)) d in
       not_inside d t idle moves there.0 (suc i) (rw (run.step i, arrives) there.1))
 
   waits : (d t : ℕ) → Idle out d φ → goes t ≡ true → Stays input φ → (i : ℕ) → (φ i).offer input ≡ Some d → (k : ℕ) → (φ (i + k)).offer input ≡ Some d
-  waits d t idle moves stays i offered zero = rw add-zero offered
-  waits d t idle moves stays i offered (suc k) =
-      let before = waits d t idle moves stays i offered k in
+  waits d t idle moves stays i is_offered zero = rw add-zero is_offered
+  waits d t idle moves stays i is_offered (suc k) =
+      let before = waits d t idle moves stays i is_offered k in
       rw add-suc (stays (i + k) d before (not_taken d t idle moves (i + k) before))
 
   -- after the head has moved there is room, where nothing arrives
@@ -150,9 +150,9 @@ module _ (input out capacity : ℕ) (ps : ℕ → List ℕ) (φ : ℕ → Signal
       (run.equation (suc i)).ready_in ∙ lt-ltb (length (ps (suc i))) capacity (omega arith)
 
   not_offered : (d t : ℕ) → Idle out d φ → goes t ≡ true → Stays input φ → Idle input d φ
-  not_offered d t idle moves stays i offered =
+  not_offered d t idle moves stays i is_offered =
       let k = t + i * n - i in
-      let on : (k : ℕ) → (φ (i + k)).offer input ≡ Some d = waits d t idle moves stays i offered in
+      let on : (k : ℕ) → (φ (i + k)).offer input ≡ Some d = waits d t idle moves stays i is_offered in
       let shut : (k : ℕ) → (φ (i + k)).ready input ≡ false = λ k. not_taken d t idle moves (i + k) (on k) in
       let open_now : (φ (suc (i + k))).ready input ≡ true = room_after (i + k) (goes_later t i moves) (shut k) in
       let shut_now : (φ (suc (i + k))).ready input ≡ false = rw add-suc at (shut (suc k)) in
@@ -193,10 +193,10 @@ module _ (input out capacity : ℕ) (ps : ℕ → List ℕ) (φ : ℕ → Signal
           omega arith
 
       nothing_offered : (d : ℕ) → Idle input d φ
-      nothing_offered d t offered =
+      nothing_offered d t is_offered =
           let now : length (ps t) ≡ 0 = stays_empty t in
           let takes : (φ t).ready input ≡ true = (run.equation t).ready_in ∙ lt-ltb (length (ps t)) capacity (omega (arith, run.holds_some)) in
-          let arrives : move (φ t) input ≡ Some d = only_if-true ((φ t).ready input) ((φ t).offer input) takes ∙ offered in
+          let arrives : move (φ t) input ≡ Some d = only_if-true ((φ t).ready input) ((φ t).offer input) takes ∙ is_offered in
           let there = arrived (left (ps t) (move (φ t) out)) d in
           let at_place : slice_get (ps (suc t)) there.0 ≡ Some d = rw (run.step t, arrives) there.1 in
           let within : there.0 < length (ps (suc t)) = slice_get_within (ps (suc t)) there.0 d at_place in

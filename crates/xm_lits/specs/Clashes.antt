@@ -11,11 +11,11 @@ use Rattle.xm_model.specs.declared.primitive.SourceMode.{SourceMode}
 use Rattle.xm_model.specs.declared.primitive.SourceMode.TheVariants as source_mode
 
 -- a channel is dead with a colour and idle of it, or dead with two colours
-abbrev pub opposed : Lit → Lit → Bool
-opposed (Dead c d) (Idle e f) = nat_eq c e && nat_eq d f
-opposed (Idle c d) (Dead e f) = nat_eq c e && nat_eq d f
-opposed (Dead c d) (Dead e f) = nat_eq c e && not (nat_eq d f)
-opposed _ _ = false
+abbrev pub are_opposed : Lit → Lit → Bool
+are_opposed (Dead c d) (Idle e f) = nat_eq c e && nat_eq d f
+are_opposed (Idle c d) (Dead e f) = nat_eq c e && nat_eq d f
+are_opposed (Dead c d) (Dead e f) = nat_eq c e && not (nat_eq d f)
+are_opposed _ _ = false
 
 -- it is a queue whose output lacks the colour
 abbrev pub lacks_colour : (ℕ → List ℕ) → ℕ → Option Component → Bool
@@ -30,13 +30,13 @@ lacks_colour colours d (Some (Switch input a b to_a)) = false
 lacks_colour colours d (Some (Merge a b out)) = false
 
 -- a channel is dead with a colour outside its set, or a queue has a packet of one outside that of its output
-abbrev pub outside : Designed → Lit → Bool
-outside it (Stuck c) = false
-outside it (Dead c d) = nat_lt c it.net.channels && not (has_colour (colours_at it.colours c) d)
-outside it (Idle c d) = false
-outside it (Full q) = false
-outside it (Has q d) = lacks_colour (colours_at it.colours) d (slice_get it.net.prims q)
-outside it (Lacks q d) = false
+abbrev pub is_outside : Designed → Lit → Bool
+is_outside it (Stuck c) = false
+is_outside it (Dead c d) = nat_lt c it.net.channels && not (has_colour (colours_at it.colours c) d)
+is_outside it (Idle c d) = false
+is_outside it (Full q) = false
+is_outside it (Has q d) = lacks_colour (colours_at it.colours) d (slice_get it.net.prims q)
+is_outside it (Lacks q d) = false
 
 -- the mode of a source that offers again and again
 abbrev pub offers_again : SourceMode → Bool
@@ -63,11 +63,11 @@ one_offers net (p ∷ []) = is_offering (slice_get net.prims p)
 one_offers net (p ∷ q ∷ ps) = false
 
 -- an eager or fair source offers on the channel
-abbrev pub offered : Designed → ℕ → Bool
-offered it c = one_offers it.net (initiators it.net.prims c)
+abbrev pub is_offered : Designed → ℕ → Bool
+is_offered it c = one_offers it.net (initiators it.net.prims c)
 
 -- a clash: two literals that are opposed, one that is outside, or idleness of all colours where such a source offers
 pub data IsClash (it : Designed) : List Lit → Type 0 where
-  two_opposed : (l m : Lit) → opposed l m ≡ true → IsClash it (l ∷ m ∷ [])
-  one_outside : (l : Lit) → outside it l ≡ true → IsClash it (l ∷ [])
-  all_idle : (c : ℕ) → offered it c ≡ true → IsClash it (idle_all (colours_at it.colours) c)
+  two_opposed : (l m : Lit) → are_opposed l m ≡ true → IsClash it (l ∷ m ∷ [])
+  one_outside : (l : Lit) → is_outside it l ≡ true → IsClash it (l ∷ [])
+  all_idle : (c : ℕ) → is_offered it c ≡ true → IsClash it (idle_all (colours_at it.colours) c)

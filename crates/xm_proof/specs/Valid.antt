@@ -4,14 +4,14 @@ use Rattle.xm_colours.specs.Family.{colours_at}
 use Rattle.xm_design.specs.Designed.{Designed}
 use Rattle.xm_flow.specs.Holding.{pair_count, queue_pair_count}
 use Rattle.xm_flow.specs.ValidLemma.{IsValid, Lemma, TestFits}
-use Rattle.xm_lits.specs.Clashes.{offered, opposed, outside}
+use Rattle.xm_lits.specs.Clashes.{is_offered, are_opposed, is_outside}
 use Rattle.xm_lits.specs.Inference.{Inference, has_colour, idle_all, rules_of}
 use Rattle.xm_lits.specs.declared.inference.RuleName.{RuleName}
 use Rattle.xm_lits.specs.declared.literal.Lit.{Lit}
 use Rattle.xm_lits.specs.declared.literal.Lit.TheVariants.{Stuck, Dead, Idle, Full, Has, Lacks}
 use Rattle.xm_proof.specs.Argument.{Argument, Cite, Clash, Eager, Open, Refutation, Split, Step, Sum, literals}
 use Rattle.xm_proof.specs.Sums.{Sums, add_row, all_zero, is_natural, no_sums}
-use Rattle.xm_lits.specs.Paths.{all_on_path, on_path}
+use Rattle.xm_lits.specs.Paths.{are_on_path, is_on_path}
 use Rattle.xm_proof.specs.Tests.{capacity_row, find_rule, is_queue, is_queue_pair, literal_row, longer, low_row, move_columns, only_where, queue_columns}
 use Rattle.xm_proof.specs.declared.proof.Item.{Item}
 use Rattle.xm_proof.specs.declared.proof.Item.TheVariants as item
@@ -57,7 +57,7 @@ abbrev pub item_row : Designed → List Lemma → List Lit → Item → Option S
 item_row it lemmas path (item.Lemma k m) = lemma_row (slice_get lemmas k)
 item_row it lemmas path (item.Cap q m) = only_where (is_queue (slice_get it.net.prims q)) (Some (capacity_row it q))
 item_row it lemmas path (item.Low q d m) = only_where (is_queue_pair (colours_at it.colours) d (slice_get it.net.prims q)) (Some (low_row it q d))
-item_row it lemmas path (item.Path l m) = only_where (on_path path l && of_a_queue it l) (literal_row it l)
+item_row it lemmas path (item.Path l m) = only_where (is_on_path path l && of_a_queue it l) (literal_row it l)
 
 -- the items, each so often as it is taken, make these sums
 abbrev pub AddUp : Designed → List Lemma → List Lit → List Item → Sums → Sums → Type 0
@@ -74,12 +74,12 @@ pub record Closes (it : Designed) (lemmas : List Lemma) (path : List Lit) (items
 
 -- the literals are on the path and make one of the first three clashes
 abbrev pub Clashes : Designed → List Lit → Lit → Option Lit → Type 0
-Clashes it path l None = (on_path path l ≡ true) × (outside it l ≡ true)
-Clashes it path l (Some m) = (on_path path l ≡ true) × ((on_path path m ≡ true) × (opposed l m ≡ true))
+Clashes it path l None = (is_on_path path l ≡ true) × (is_outside it l ≡ true)
+Clashes it path l (Some m) = (is_on_path path l ≡ true) × ((is_on_path path m ≡ true) × (are_opposed l m ≡ true))
 
 -- a rule of a literal of the path, and what is left to refute by its alternatives
 pub record Splits (it : Designed) (path : List Lit) (name : RuleName) (on : Lit) (via : Option ℕ) (kids : ℕ) (paths : List (List Lit)) : Type 0 where
-  pub here : on_path path on ≡ true
+  pub here : is_on_path path on ≡ true
   pub rule : Inference
   pub found : find_rule (rules_of it on) name via ≡ Some rule
   pub whole : length rule.alternatives ≡ kids
@@ -89,13 +89,13 @@ pub record Splits (it : Designed) (path : List Lit) (name : RuleName) (on : Lit)
 pub record Cites (before : List Lit) (path : List Lit) (place : ℕ) : Type 0 where
   pub goal : Lit
   pub earlier : slice_get before place ≡ Some goal
-  pub here : on_path path goal ≡ true
+  pub here : is_on_path path goal ≡ true
 
 -- the step refutes the path, once these paths are refuted
 abbrev pub Refutes : Designed → List Lemma → List Lit → List Lit → Step → List (List Lit) → Type 0
 Refutes it lemmas before path (Split name on via kids) paths = Splits it path name on via kids paths
 Refutes it lemmas before path (Clash l other) paths = Clashes it path l other × (paths ≡ [])
-Refutes it lemmas before path (Eager c) paths = (all_on_path path (idle_all (colours_at it.colours) c) ≡ true) × ((offered it c ≡ true) × (paths ≡ []))
+Refutes it lemmas before path (Eager c) paths = (are_on_path path (idle_all (colours_at it.colours) c) ≡ true) × ((is_offered it c ≡ true) × (paths ≡ []))
 Refutes it lemmas before path (Sum items) paths = Closes it lemmas path items × (paths ≡ [])
 Refutes it lemmas before path (Cite place) paths = Cites before path place × (paths ≡ [])
 Refutes it lemmas before path Open paths = ⊥
@@ -124,12 +124,12 @@ is_dead_pair it (Lacks q d) = false
 -- they are distinct, and each says that a pair is dead
 abbrev pub AreGoals : Designed → List Lit → List Lit → Type 0
 AreGoals it before [] = Unit {0}
-AreGoals it before (l ∷ ls) = (is_dead_pair it l ≡ true) × ((on_path before l ≡ false) × AreGoals it (before ++ l ∷ []) ls)
+AreGoals it before (l ∷ ls) = (is_dead_pair it l ≡ true) × ((is_on_path before l ≡ false) × AreGoals it (before ++ l ∷ []) ls)
 
 -- every pair is a goal
 abbrev pub all_goals : List Lit → List (ℕ × ℕ) → Bool
 all_goals ls [] = true
-all_goals ls (pair ∷ rest) = on_path ls (Dead pair.0 pair.1) && all_goals ls rest
+all_goals ls (pair ∷ rest) = is_on_path ls (Dead pair.0 pair.1) && all_goals ls rest
 
 -- over the design's flow rows lemmas are valid, each pair is a goal once, and each goal is refuted
 pub record IsProof (it : Designed) (rows : List SparseRow) (p : Argument) : Type 0 where

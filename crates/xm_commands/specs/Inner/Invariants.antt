@@ -1,7 +1,7 @@
 -- Why there are no invariants, from the faults that were found.
 use Rattle.std.specs.Prelude.{◌≡◌, ◌<◌}
 use Rattle.xm_design.specs.Designed.{Designed}
-use Rattle.xm_elim.specs.Elimination.{MeetsOverflow, OnOverflow}
+use Rattle.xm_elim.specs.Elimination.{ElimOverflows, OnOverflow}
 use Rattle.xm_elim.specs.declared.fault.ElimFault.{ElimFault}
 use Rattle.xm_flow.specs.FlowRows.{Flow}
 use Rattle.xm_flow.specs.Holding.{most_pairs, pair_count, queue_pair_count}
@@ -15,4 +15,4 @@ IsFlowFault design fault.OutOfMemory = Unit {0}
 
 -- the elimination of these flow rows leaves 128 bits; want of memory says nothing
 abbrev pub IsOverflow : Designed → Flow → ElimFault → Type 0
-IsOverflow design rows = OnOverflow (MeetsOverflow (pair_count design) (queue_pair_count design) rows.rows)
+IsOverflow design rows = OnOverflow (ElimOverflows (pair_count design) (queue_pair_count design) rows.rows)

@@ -21,20 +21,23 @@ pub record ArePlaces (rows : List Working) (column : ℕ) (places : List ℕ) : 
 pub record AreReplaced (column i : ℕ) (rows next : List Working) : Type 0 where
   pub whole : length next ≡ length rows
   pub at_pivot : slice_get next i ≡ slice_get rows i
-  pub others : (w : Working) → slice_get rows i ≡ Some w → (j : ℕ) (v n : Working) → j ≢ i → slice_get rows j ≡ Some v → slice_get next j ≡ Some n → Replaced column w.row v n
+  pub others : (w : Working) → slice_get rows i ≡ Some w → (j : ℕ) (v n : Working) → j ≢ i →
+      slice_get rows j ≡ Some v → slice_get next j ≡ Some n → Replaced column w.row v n
 
 -- what row p becomes: nothing else, where it is the pivot or is not taken
 abbrev pub IsReplacement : ℕ → ℕ → ℕ → List Working → Option SparseRow → Type 0
 IsReplacement column i p rows None = (v : Working) → slice_get rows p ≡ Some v → p ≢ i → IsTaken column v → ⊥
 IsReplacement column i p rows (Some t) =
-    (w v : Working) → slice_get rows i ≡ Some w → slice_get rows p ≡ Some v → (p ≢ i) × IsTaken column v × IsRow t × IsCancelled v.row w.row column t
+    (w v : Working) → slice_get rows i ≡ Some w → slice_get rows p ≡ Some v → (p ≢ i) × IsTaken column v × IsRow t
+    × IsCancelled v.row w.row column t
 
 -- row p is replaced, where it is not the pivot, and all others are as they were
 pub record IsOneReplaced (column i p : ℕ) (rows next : List Working) : Type 0 where
   pub whole : length next ≡ length rows
   pub others : (j : ℕ) → j ≢ p → slice_get next j ≡ slice_get rows j
   pub at_pivot : p ≡ i → slice_get next p ≡ slice_get rows p
-  pub here : p ≢ i → (w v n : Working) → slice_get rows i ≡ Some w → slice_get rows p ≡ Some v → slice_get next p ≡ Some n → Replaced column w.row v n
+  pub here : p ≢ i → (w v n : Working) → slice_get rows i ≡ Some w → slice_get rows p ≡ Some v →
+      slice_get next p ≡ Some n → Replaced column w.row v n
 
 -- the cancel of r with s leaves 128 bits
 pub record IsCancelRefused (r s : SparseRow) (column : ℕ) (x y : SparseRow) (c : ℕ) : Type 0 where
@@ -60,14 +63,17 @@ pub record IsRefused (column i p : ℕ) (rows : List Working) (r s : SparseRow) 
 pub record RefusedFirst (column i : ℕ) (rows : List Working) (r s : SparseRow) (c : ℕ) : Type 0 where
   pub p : ℕ
   pub refused : IsRefused column i p rows r s c
-  pub earlier : (k : ℕ) (v : Working) → k < p → k ≢ i → slice_get rows k ≡ Some v → IsTaken column v → Overflows v.row s column → ⊥
+  pub earlier : (k : ℕ) (v : Working) → k < p → k ≢ i → slice_get rows k ≡ Some v → IsTaken column v →
+      Overflows v.row s column → ⊥
 
 -- after the first k places each row is as it was, or replaced
 pub record AreReplacing (column i : ℕ) (places : List ℕ) (k : ℕ) (rows next : List Working) : Type 0 where
   pub whole : length next ≡ length rows
   pub at_pivot : slice_get next i ≡ slice_get rows i
-  pub others : (w : Working) → slice_get rows i ≡ Some w → (j : ℕ) (v n : Working) → j ≢ i → slice_get rows j ≡ Some v → slice_get next j ≡ Some n →
-      ((n ≡ v) × (IsTaken column v → IsIn (drop k places) j)) ⊎ (Replaced column w.row v n × (IsIn (drop k places) j → ⊥))
+  pub others : (w : Working) → slice_get rows i ≡ Some w → (j : ℕ) (v n : Working) → j ≢ i →
+      slice_get rows j ≡ Some v → slice_get next j ≡ Some n →
+      ((n ≡ v) × (IsTaken column v → IsIn (drop k places) j)) ⊎ (Replaced column w.row v n
+      × (IsIn (drop k places) j → ⊥))
 
 -- the best candidate among the rows at these places: the one with the fewest entries, and among equals the first
 pub record IsBestAt (rows : List Working) (column : ℕ) (places : List ℕ) (b : ℕ) : Type 0 where
@@ -75,11 +81,14 @@ pub record IsBestAt (rows : List Working) (column : ℕ) (places : List ℕ) (b 
   pub at : slice_get rows b ≡ Some w
   pub among : IsIn places b
   pub candidate : IsCandidate column w
-  pub fewest : (j : ℕ) (v : Working) → IsIn places j → slice_get rows j ≡ Some v → IsCandidate column v → length w.row.entries ≤ length v.row.entries
-  pub first : (j : ℕ) (v : Working) → j < b → IsIn places j → slice_get rows j ≡ Some v → IsCandidate column v → length w.row.entries < length v.row.entries
+  pub fewest : (j : ℕ) (v : Working) → IsIn places j → slice_get rows j ≡ Some v → IsCandidate column v →
+      length w.row.entries ≤ length v.row.entries
+  pub first : (j : ℕ) (v : Working) → j < b → IsIn places j → slice_get rows j ≡ Some v → IsCandidate column v →
+      length w.row.entries < length v.row.entries
 
 abbrev pub IsBest : List Working → ℕ → List ℕ → Option ℕ → Type 0
-IsBest rows column places None = (j : ℕ) (v : Working) → IsIn places j → slice_get rows j ≡ Some v → IsCandidate column v → ⊥
+IsBest rows column places None = (j : ℕ) (v : Working) → IsIn places j → slice_get rows j ≡ Some v →
+    IsCandidate column v → ⊥
 IsBest rows column places (Some b) = IsBestAt rows column places b
 
 -- the place is that of a row, if there is one
@@ -102,10 +111,16 @@ pub record Leads (moves column k : ℕ) (r : SparseRow) : Type 0 where
 -- the entries below a column, counted from another
 abbrev pub lowered : ℕ → ℕ → List Entry → List Entry
 lowered from base [] = []
-lowered from base (e ∷ es) = cond (nat_lt e.column base) (record { column = e.column - from; value = e.value } ∷ lowered from base es) (lowered from base es)
+lowered from base (e ∷ es) = cond (nat_lt e.column base) (record {
+  column = e.column - from;
+  value =
+      e.value;
+} ∷ lowered from base es) (lowered from base es)
 
 -- the first lemma whose test leaves 128 bits is that of the pivot at the place
-pub record IsFirstFailing (flow : List SparseRow) (rows : List Working) (pivots : List SparseRow) (lemmas : List Lemma) (place : ℕ) : Type 0 where
+pub record IsFirstFailing
+    (flow : List SparseRow) (rows : List Working) (pivots : List SparseRow) (lemmas : List Lemma) (place : ℕ) :
+    Type 0 where
   pub i : ℕ
   pub it : Lemma
   pub at : slice_get lemmas i ≡ Some it
@@ -128,16 +143,23 @@ first_failed None true place = None
 first_failed None false place = Some place
 
 -- the lemmas of the pivots of the first n columns of packets, and the first that fails its test
-pub record AreGathered (moves counts : ℕ) (flow : List SparseRow) (rows : List Working) (n : ℕ) (lemmas : List Lemma) (failed : Option ℕ) : Type 0 where
+pub record AreGathered
+    (moves counts : ℕ) (flow : List SparseRow) (rows : List Working) (n : ℕ) (lemmas : List Lemma) (failed : Option ℕ) :
+    Type 0 where
   pub pivots : List SparseRow
   pub taken : Pivots moves rows n pivots
   pub whole : length lemmas ≡ length pivots
-  pub parted : (i : ℕ) (r : SparseRow) (it : Lemma) → slice_get pivots i ≡ Some r → slice_get lemmas i ≡ Some it → IsParted moves counts r it
+  pub parted : (i : ℕ) (r : SparseRow) (it : Lemma) → slice_get pivots i ≡ Some r → slice_get lemmas i ≡ Some it →
+      IsParted moves counts r it
   pub tested : AreTested flow rows pivots lemmas failed
 
 -- the row at the place is a pivot
 abbrev pub IsPivotPlace : List Working → ℕ → Type 0
-IsPivotPlace rows place = (r : SparseRow) × ((column : ℕ) × (slice_get rows place ≡ Some (record { row = r; status = Pivot column })))
+IsPivotPlace rows place = (r : SparseRow) × ((column : ℕ) × (slice_get rows place ≡ Some (record {
+  row = r;
+  status =
+      Pivot column;
+})))
 
 -- the test of this pivot's lemma is refused: its row with itself
 pub record IsTestRefused (it : Working) (r s : SparseRow) (column : ℕ) : Type 0 where

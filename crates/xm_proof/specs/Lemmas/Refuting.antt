@@ -6,7 +6,7 @@ use Rattle.std.proofs.lemmas.Bool.{and_parts, cases_Bool, cond-true, cond-false,
 use Rattle.xm_colours.specs.Family.{colours_at}
 use Rattle.xm_design.specs.Designed.{Designed}
 use Rattle.xm_flow.specs.ValidLemma.{Lemma}
-use Rattle.xm_lits.specs.Clashes.{offered, opposed, outside}
+use Rattle.xm_lits.specs.Clashes.{is_offered, are_opposed, is_outside}
 use Rattle.xm_lits.specs.Inference.{Inference, idle_all, rules_of}
 use Rattle.xm_lits.specs.Repeating.{AllOf, SomeOf}
 use Rattle.xm_lits.specs.declared.inference.RuleName.{RuleName}
@@ -14,12 +14,12 @@ use Rattle.xm_lits.specs.declared.literal.Lit.{Lit}
 use Rattle.xm_lits.specs.declared.literal.Lit.TheVariants.{Stuck, Dead, Idle, Full, Has, Lacks}
 use Rattle.xm_model.specs.Membership.{IsIn}
 use Rattle.xm_proof.specs.Argument.{Cite, Clash, Eager, Open, Refutation, Split, Step, Sum, literals}
-use Rattle.xm_lits.specs.Paths.{all_on_path, on_path, same_lit}
+use Rattle.xm_lits.specs.Paths.{are_on_path, is_on_path, are_same}
 use Rattle.xm_proof.specs.Tests.{find_rule, longer, name_number, same_colour}
 use Rattle.xm_proof.specs.Valid.{AllRefuted, Clashes, Closes, GoalsRefuted, Refutes}
 use Rattle.xm_proof.specs.declared.proof.Item.{Item}
 
-pub lit_from : (l m : Lit) → same_lit l m ≡ true → l ≡ m
+pub lit_from : (l m : Lit) → are_same l m ≡ true → l ≡ m
 lit_from (Stuck c) (Stuck e) h = ap Stuck (eqb-true c e h)
 lit_from (Dead c d) (Dead e f) h = let both = and_parts _ _ h in let x = eqb-true c e both.0 in let y = eqb-true d f both.1 in cc
 lit_from (Idle c d) (Idle e f) h = let both = and_parts _ _ h in let x = eqb-true c e both.0 in let y = eqb-true d f both.1 in cc
@@ -29,15 +29,15 @@ lit_from (Lacks q d) (Lacks r e) h = let both = and_parts _ _ h in let x = eqb-t
 lit_from _ _ h = cc
 
 -- a literal of a path meets what all literals of the path meet
-pub on_path_holds : (H : Lit → Type 0) (path : List Lit) (l : Lit) → on_path path l ≡ true → AllOf H path → H l
+pub on_path_holds : (H : Lit → Type 0) (path : List Lit) (l : Lit) → is_on_path path l ≡ true → AllOf H path → H l
 on_path_holds H [] l on all = cc
 on_path_holds H (m ∷ ms) l on all =
-    elim (or_cases (same_lit m l) (on_path ms l) on) [ inl same ↦ subst H (lit_from m l same) all.0 | inr rest ↦ on_path_holds H ms l rest all.1 ]
+    elim (or_cases (are_same m l) (is_on_path ms l) on) [ inl same ↦ subst H (lit_from m l same) all.0 | inr rest ↦ on_path_holds H ms l rest all.1 ]
 
-pub all_on_path_hold : (H : Lit → Type 0) (path ls : List Lit) → all_on_path path ls ≡ true → AllOf H path → AllOf H ls
+pub all_on_path_hold : (H : Lit → Type 0) (path ls : List Lit) → are_on_path path ls ≡ true → AllOf H path → AllOf H ls
 all_on_path_hold H path [] on all = tt
 all_on_path_hold H path (l ∷ ls) on all =
-    let both = and_parts (on_path path l) (all_on_path path ls) on in
+    let both = and_parts (is_on_path path l) (are_on_path path ls) on in
     (on_path_holds H path l both.0 all, all_on_path_hold H path ls both.1 all)
 
 all-append : (H : Lit → Type 0) (xs ys : List Lit) → AllOf H xs → AllOf H ys → AllOf H (xs ++ ys)
@@ -55,9 +55,9 @@ found_in (x ∷ xs) name via r h =
 
 -- a reading of literals that answers the rules, meets no clash and no sum
 pub record IsReading (it : Designed) (lemmas : List Lemma) (H : Lit → Type 0) : Type 0 where
-  pub opposed_fail : (l m : Lit) → opposed l m ≡ true → H l → H m → ⊥
-  pub outside_fails : (l : Lit) → outside it l ≡ true → H l → ⊥
-  pub offered_fails : (c : ℕ) → offered it c ≡ true → AllOf H (idle_all (colours_at it.colours) c) → ⊥
+  pub opposed_fail : (l m : Lit) → are_opposed l m ≡ true → H l → H m → ⊥
+  pub outside_fails : (l : Lit) → is_outside it l ≡ true → H l → ⊥
+  pub offered_fails : (c : ℕ) → is_offered it c ≡ true → AllOf H (idle_all (colours_at it.colours) c) → ⊥
   pub rule_holds : (l : Lit) (r : Inference) → IsIn (rules_of it l) r → H l → SomeOf H r.alternatives
   pub sum_fails : (path : List Lit) (items : List Item) → Closes it lemmas path items → AllOf H path → ⊥
 
@@ -108,13 +108,13 @@ module _ (it : Designed) (lemmas : List Lemma) (H : Lit → Type 0) (reading : I
 
   -- a goal is not met
   pub goal_fails : (before : List Lit) (gs : List Refutation) → ((k : ℕ) (g : Lit) → slice_get before k ≡ Some g → H g → ⊥) →
-      GoalsRefuted it lemmas before gs → (l : Lit) → on_path (literals gs) l ≡ true → H l → ⊥
+      GoalsRefuted it lemmas before gs → (l : Lit) → is_on_path (literals gs) l ≡ true → H l → ⊥
   goal_fails before [] earlier all l is holds = true_false is where
     true_false : false ≡ true → ⊥
     true_false e = cc
   goal_fails before (g ∷ gs) earlier all l is holds =
       let here : H g.lit → ⊥ = λ h. (paths_fail before earlier g.steps ((g.lit ∷ []) ∷ []) all.0).0 (h, tt) in
-      elim (or_cases (same_lit g.lit l) (on_path (literals gs) l) is) [
+      elim (or_cases (are_same g.lit l) (is_on_path (literals gs) l) is) [
         | inl same ↦ here (subst H (sym (lit_from g.lit l same)) holds)
         | inr later ↦ goal_fails (before ++ g.lit ∷ []) gs (λ k x at. elim (last_or_before before g.lit x k at)
             [ inl among ↦ earlier k x among | inr last ↦ λ h. here (subst H (sym last) h) ]) all.1 l later holds

@@ -4,7 +4,7 @@ use Rattle.xm_check.proofs.Marking.{goal_passed, take_on}
 use Rattle.xm_check.proofs.goals.mark_goals.Goals as goal
 use Rattle.xm_check.specs.Break.{goals_test}
 use Rattle.xm_check.specs.Inner.Marked.{AreMarks}
-use Rattle.xm_lits.specs.Paths.{on_path}
+use Rattle.xm_lits.specs.Paths.{is_on_path}
 use Rattle.xm_lits.specs.declared.literal.Lit.{Lit}
 use Rattle.xm_proof.specs.Valid.{is_dead_pair}
 use Rattle.xm_proof.specs.declared.proof.Goal.{Goal}
@@ -20,7 +20,7 @@ loop-k-preserved c =
     let more : lits (take (k + 1) goals) ≡ before ++ item.lit ∷ [] =
     ap (λ (n : ℕ). lits (take n goals)) (add-one k) ∙ ap lits (take_on goals k c.index-goals-k.result c.loop-k-test.true)
     ∙ map-append (λ (goal : Goal). goal.lit) (take k goals) (item ∷ []) in
-    let fresh : (is_dead_pair it item.lit && not (on_path before item.lit)) ≡ true =
+    let fresh : (is_dead_pair it item.lit && not (is_on_path before item.lit)) ≡ true =
     sym (c.mark_goal.ensures.fresh before c.loop-k.invariant.marks) ∙ c.if-not-mark_goal.false in
     record {
       marks = subst (λ (ls : List Lit). AreMarks it.net.channels ls c.mark_goal.new.marks) (sym more)

@@ -1,7 +1,7 @@
 use Rattle.std.proofs.Common.{◌≡◌, ◌+◌, length, map}
 use Rattle.xm_flow.specs.ValidLemma.{lemma_of}
 use Rattle.xm_elim.specs.Inner.Places.{AreGathered}
-use Rattle.xm_elim.specs.Inner.Testing.{AreBelow}
+use Rattle.xm_flow.specs.Slots.{AreBelow}
 use Rattle.xm_elim.proofs.gather.gather.Given as goal
 
 abbrev pub invariant-loop-n : goal.invariant-loop-n

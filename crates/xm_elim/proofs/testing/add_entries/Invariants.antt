@@ -1,9 +1,0 @@
-use Rattle.std.proofs.Common.{◌+◌, take}
-use Rattle.xm_elim.specs.Inner.Testing.{AreAdded, AreBelow}
-use Rattle.xm_elim.proofs.testing.add_entries.Given as goal
-
-abbrev pub invariant-loop-entry : goal.invariant-loop-entry
-invariant-loop-entry l = record {
-  added : AreAdded l.n l.factor (take l.entry-index l.entries) l.fn.slots l.slots;
-  below : AreBelow (l.n + 1) l.fn.slots → AreBelow (l.n + 1) l.slots;
-}
