@@ -19,7 +19,8 @@ use std::alloc::Global;
 use xm_design::Design;
 use xm_flow::Invariant;
 use xm_lits::{
-    Lit, Rule, RuleName, are_on_path, idle_lits, is_offered, is_on_path, are_opposed, is_outside, rules,
+    Lit, Rule, RuleName, are_on_path, are_opposed, idle_lits, is_offered, is_on_path, is_outside,
+    rules,
 };
 use xm_model::List;
 use xm_proof::{Goal, Node, Reason};
@@ -144,7 +145,10 @@ fn check_clash(design: &Design, path: &[Lit], one: &Lit, other: Option<Lit>) -> 
             demand(is_outside(design, one), Reason::Clash)
         }
         Some(other) => {
-            demand(is_on_path(path, one) && is_on_path(path, &other), Reason::Absent)?;
+            demand(
+                is_on_path(path, one) && is_on_path(path, &other),
+                Reason::Absent,
+            )?;
             demand(are_opposed(one, &other), Reason::Clash)
         }
     }

@@ -41,7 +41,14 @@ fn check_trees(
             lemmas,
             before: &goals[..k],
         };
-        match check_tree(alloc, &given, k as u32, goals[k].lit, goals[k].tree.as_slice(), sums) {
+        match check_tree(
+            alloc,
+            &given,
+            k as u32,
+            goals[k].lit,
+            goals[k].tree.as_slice(),
+            sums,
+        ) {
             Ok(next) => sums = next,
             Err(halt) => return Err(halt),
         }
