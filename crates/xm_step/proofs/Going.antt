@@ -1,5 +1,5 @@
 -- The cells of the queues, and then those of the other primitives, past a cycle.
-use Rattle.std.proofs.Common.{◌≡◌, ◌⊎◌, ℕ, ◌+◌, ◌<◌, ◌≤◌, List, [], Some, length, set, get_or, slice_get, refl, sym, ap, ◌∙◌, subst, inl, inr, arith}
+use Rattle.std.proofs.Common.{◌≡◌, ℕ, ◌+◌, ◌<◌, ◌≤◌, List, Some, length, set, get_or, slice_get, refl, sym, ap, ◌∙◌, subst, inl, inr, arith}
 use Rattle.std.proofs.lemmas.Bool.{cases_lt}
 use Rattle.std.proofs.lemmas.List.{get_or_default}
 use Rattle.std.proofs.lemmas.Option.{slice_get_within}
@@ -13,7 +13,7 @@ use Rattle.xm_step.specs.Roomy.{IsRoomy, IsRoomyCell, cell_at}
 use Rattle.xm_step.specs.declared.kinds.QueuePlace.{QueuePlace}
 use Rattle.xm_step.proofs.Advancing.{gone_more}
 
-can_from : (input out capacity : ℕ) (initial : List ℕ) (x : Cell) (φ : Signals) → IsRoomyCell (Queue input out capacity initial) x → IsGuarded (Queue input out capacity initial) x φ → CanAdvance input out capacity x φ
+pub can_from : (input out capacity : ℕ) (initial : List ℕ) (x : Cell) (φ : Signals) → IsRoomyCell (Queue input out capacity initial) x → IsGuarded (Queue input out capacity initial) x φ → CanAdvance input out capacity x φ
 can_from input out capacity initial (cell.Packets q) φ roomy guarded = (roomy, guarded)
 can_from input out capacity initial (cell.Pending d) φ roomy guarded = absurd roomy
 can_from input out capacity initial (cell.Held h) φ roomy guarded = absurd roomy

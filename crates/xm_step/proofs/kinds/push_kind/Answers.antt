@@ -1,6 +1,5 @@
-use Rattle.std.proofs.Common.{refl, ◌∙◌, ap}
+use Rattle.std.proofs.Common.{refl}
 use Rattle.xm_step.proofs.Listing.{on_ok, other_listed, queue_listed}
-use Rattle.xm_step.specs.Inner.Kinds.{AreKindsTo}
 use Rattle.xm_step.specs.declared.kinds.QueuePlace.{QueuePlace}
 use Rattle.xm_step.proofs.kinds.push_kind.Goals as goal
 
