@@ -84,7 +84,7 @@ pub fn texts_in<'v>(
     ensures exact { Gives (λ texts. lent_texts texts.items) result (spec.texts_in path.now (map view items.now)) }
     ensures whole { IfOk result (λ texts. length (lent_texts texts.items) ≡ length items.now) }
 {
-    let mut texts = Vec::new(alloc);
+    let mut texts = Vec::with_capacity(alloc, items.len())?;
     for (place, item) in items.iter().enumerate() {
         let text = text_at_place(alloc, path, place, item)?;
         texts.push(text)?;

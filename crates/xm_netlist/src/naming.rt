@@ -157,7 +157,7 @@ pub(crate) fn check_primitive_names(
         (map named_primitive_of primitives.now)) }
     ensures set { IfOk result (λ set. names_of set.keys ≡ map spec.name_of (map named_primitive_of primitives.now)) }
 {
-    let mut before = IndexSet::new(alloc);
+    let mut before = IndexSet::with_capacity(alloc, primitives.len())?;
     for (i, primitive) in primitives.iter().enumerate() {
         check_primitive_name(alloc, &mut before, i, primitive)?;
     }

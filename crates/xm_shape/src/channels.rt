@@ -3,7 +3,7 @@
 ghost use Rattle.std.specs.Prelude.{◌≡◌, ◌∷◌, [], IfOk, OnOk, map};
 ghost use Rattle.xm_shape.specs.NamedNet as plain;
 ghost use Rattle.xm_shape.specs.Views.{named_kind_of, names_of, named_primitive_of};
-ghost use Rattle.xm_shape.specs.Names.{first_uses};
+ghost use Rattle.xm_shape.specs.Names.{first_uses, is_among};
 ghost use Rattle.xm_shape.specs.PortViews.{plain_channels_of, port_of, plain_ports_of};
 
 use crate::named_net::{NamedKind, NamedPrimitive};
@@ -94,9 +94,19 @@ pub fn ports_of(kind: &NamedKind) -> Ports<'_>
     }
 }
 
+/// Whether the name is one of the channels.
+pub fn is_channel(channels: &IndexSet<String>, name: &str) -> bool
+    ensures { result ≡ is_among (names_of channels.now.keys) name.now }
+{
+    channels.contains(name)
+}
+
 fn note(alloc: Global, set: &mut IndexSet<String>, name: &str) -> Result<(), OutOfMemory>
     ensures { OnOk result (names_of set.new.keys ≡ first_uses (names_of set.old.keys) (name.now ∷ [])) }
 {
+    if is_channel(set, name) {
+        return Ok(());
+    }
     set.insert_full(String::from_str(alloc, name)?)?;
     Ok(())
 }
@@ -132,7 +142,7 @@ pub fn channel_set(
 ) -> Result<IndexSet<String>, OutOfMemory>
     ensures { IfOk result (λ set. names_of set.keys ≡ plain.channel_names (map named_primitive_of primitives.now)) }
 {
-    let mut set = IndexSet::new(alloc);
+    let mut set = IndexSet::with_capacity(alloc, primitives.len())?;
     for primitive in primitives {
         note_ports(alloc, &mut set, primitive)?;
     }

@@ -4,7 +4,7 @@ ghost use Rattle.std.specs.Prelude.{◌≡◌};
 ghost use Rattle.xm_shape.specs.Gives.{shape_fault};
 ghost use Rattle.xm_shape.specs.declared.fault.DocFault.TheVariants as faults;
 
-use std::alloc::AllocFailed;
+use std::alloc::{AllocError, AllocFailed};
 use xm_json::PathFault;
 use xm_model::{Names, Text, WiringFault};
 
@@ -41,6 +41,14 @@ impl<T: Drop> From<AllocFailed<T>> for DocFault {
     ghost from_gives = { λ _ fault. fault ≡ faults.OutOfMemory };
 
     fn from(_: AllocFailed<T>) -> DocFault {
+        DocFault::OutOfMemory
+    }
+}
+
+impl From<AllocError> for DocFault {
+    ghost from_gives = { λ _ fault. fault ≡ faults.OutOfMemory };
+
+    fn from(_: AllocError) -> DocFault {
         DocFault::OutOfMemory
     }
 }

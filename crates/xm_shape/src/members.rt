@@ -32,7 +32,7 @@ pub fn name_member(
 fn names_from(alloc: Global, texts: &[&str]) -> Result<Vec<String>, OutOfMemory>
     ensures { IfOk result (λ names. names_of names.items ≡ lent_texts texts.now) }
 {
-    let mut names = Vec::new(alloc);
+    let mut names = Vec::with_capacity(alloc, texts.len())?;
     for text in texts {
         names.push(String::from_str(alloc, text)?)?;
     }

@@ -12,7 +12,7 @@ ghost use Rattle.xm_shape.specs.Gives as document;
 ghost use Rattle.xm_shape.specs.Names.{is_among};
 ghost use Rattle.xm_shape.specs.Shape as spec;
 
-use crate::channels::channel_set;
+use crate::channels::{channel_set, is_channel};
 use crate::fault::DocFault;
 use crate::kinds::primitive_at;
 use crate::members::names_at;
@@ -141,18 +141,12 @@ fn primitives_of(
     ensures { document.Gives (λ primitives. map named_primitive_of primitives.items) result
         (each (λ i x. spec.primitive_at version (place_of spec.net i) x) (map view values.now)) }
 {
-    let mut primitives = Vec::new(alloc);
+    let mut primitives = Vec::with_capacity(alloc, values.len())?;
     for (i, value) in values.iter().enumerate() {
         let primitive = primitive_in_net(alloc, version, i, value)?;
         primitives.push(primitive)?;
     }
     Ok(primitives)
-}
-
-fn is_channel(channels: &IndexSet<String>, name: &str) -> bool
-    ensures { result ≡ is_among (names_of channels.now.keys) name.now }
-{
-    channels.contains(name)
 }
 
 fn are_channels(channels: &IndexSet<String>, entries: &[AllowEntry]) -> bool
@@ -173,6 +167,9 @@ fn check_channels(
         (check (spec.are_channels (map named_primitive_of primitives.now) (map allow_entry_of entries.now))
         (codes "allow")) }
 {
+    if entries.is_empty() {
+        return Ok(());
+    }
     let channels = channel_set(alloc, primitives)?;
     if are_channels(&channels, entries) {
         Ok(())

@@ -7,7 +7,7 @@ use Rattle.xm_netlist.proofs.naming.check_primitive_names.Goals as goal
 
 pub returns-in_err-check_primitive_name-clause-named : goal.returns-in_err-check_primitive_name-clause-named
 returns-in_err-check_primitive_name-clause-named c =
-    let p = err_from_is_err_and c.from_residual.result c.from_residual.ensures.1 in
+    let p = err_from_is_err_and c.from_residual-in_err-check_primitive_name.result c.from_residual-in_err-check_primitive_name.ensures.1 in
     rw (p.1, p.2)
     (test_failed named_primitive_of c.args.primitives.now c.loop-i.i c.index-primitives-i.result c.loop-i-test.true c.index-primitives-i.is (check_primitive_name (map named_primitive_of c.args.primitives.now)) _ _
     (rw c.loop-i.invariant.before at c.in_err-check_primitive_name.ensures.named) c.loop-i.invariant.named)
