@@ -34,9 +34,13 @@ rule name alternatives = record { name = name; via = None; alternatives = altern
 abbrev pub one_rule : RuleName → List (List Lit) → List Inference
 one_rule name alternatives = rule name alternatives ∷ []
 
+-- the channel is idle of each of these colours
+abbrev pub idle_of : ℕ → List ℕ → List Lit
+idle_of c ds = map (λ d. Idle c d) ds
+
 -- the channel is idle of each of its colours
 abbrev pub idle_all : (ℕ → List ℕ) → ℕ → List Lit
-idle_all colours c = map (λ d. Idle c d) (colours c)
+idle_all colours c = idle_of c (colours c)
 
 -- one alternative for each colour
 abbrev pub one_of : (ℕ → List Lit) → List ℕ → List (List Lit)
@@ -102,6 +106,10 @@ via_rule input other x =
 abbrev pub via_rules : ℕ → ℕ → List ℕ → List Inference
 via_rules input other xs = map (via_rule input other) xs
 
+-- the channel is idle of all its colours, or dead with one
+abbrev pub idle_or_dead : (ℕ → List ℕ) → ℕ → List (List Lit)
+idle_or_dead colours c = idle_all colours c ∷ dead_one c (colours c)
+
 -- the rules of stuck channel c, by primitive number p, which takes from it
 abbrev pub stuck_rules : (ℕ → List ℕ) → ℕ → ℕ → Component → List Inference
 stuck_rules colours c p (Source _ _ _) = []
@@ -110,8 +118,8 @@ stuck_rules colours c p (Queue _ out _ _) = one_rule S2 (one_of (λ e. Full p �
 stuck_rules colours c p (Function _ out _) = one_rule S3 ((Stuck out ∷ []) ∷ [])
 stuck_rules colours c p (Fork _ a b _ _) = one_rule S4 ((Stuck a ∷ []) ∷ (Stuck b ∷ []) ∷ [])
 stuck_rules colours c p (Join a b out _) = one_rule S5 (idle_all colours (other_than c a b) ∷ (Stuck out ∷ []) ∷ [])
-stuck_rules colours c p (Switch _ _ _ _) = one_rule S6 (idle_all colours c ∷ dead_one c (colours c))
-stuck_rules colours c p (Merge _ _ _) = one_rule S6 (idle_all colours c ∷ dead_one c (colours c))
+stuck_rules colours c p (Switch _ _ _ _) = one_rule S6 (idle_or_dead colours c)
+stuck_rules colours c p (Merge _ _ _) = one_rule S6 (idle_or_dead colours c)
 
 -- the rules of channel c, which is dead with d, by the primitive that takes from it
 abbrev pub passing_rules : (ℕ → List ℕ) → ℕ → ℕ → ℕ → Component → List Inference
@@ -149,7 +157,7 @@ idle_rules colours c d p (Source _ _ _) = []
 idle_rules colours c d p (Sink _ _) = []
 idle_rules colours c d p (Queue input _ _ _) = one_rule I2 (lacking colours d p input ∷ dead_other colours c d)
 idle_rules colours c d p (Function input _ table) =
-    one_rule I3 (map (λ x. Idle input x) (taken_to table d (colours input)) ∷ [])
+    one_rule I3 (idle_of input (taken_to table d (colours input)) ∷ [])
 idle_rules colours c d p (Fork input a b map_a map_b) =
     via_rules input (other_than c a b) (taken_to (map_to c a map_a map_b) d (colours input))
 idle_rules colours c d p (Join a b _ pass) = one_rule I5 (idle_join colours d (at_side pass a b) (at_side pass b a))

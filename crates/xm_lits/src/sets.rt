@@ -10,6 +10,13 @@ use xm_colours::Colours;
 use xm_design::Design;
 use xm_model::{List, OutOfMemory};
 
+/// The colours of channels are colours of the net. The call does nothing, and its caller has that fact.
+pub fn are_below(design: &Design)
+    ensures { (c d : ℕ) → IsIn (colours_at design.now.colours c) d → d < design.now.net.colours }
+{
+    design.colours();
+}
+
 /// Appends the colour, where the test holds.
 fn push_if(ds: &mut List<u8>, test: bool, d: u8) -> Result<(), OutOfMemory>
     ensures { OnOk result (ds.new.items ≡ ds.old.items ++ cond test (d ∷ []) []) }
@@ -91,7 +98,7 @@ pub fn set_of(alloc: Global, design: &Design, c: u32) -> Result<List<u8>, OutOfM
     ensures value { IfOk result (λ ds. ds.items ≡ colours_at design.now.colours c) }
     ensures below { IfOk result (λ ds. All (λ d. d < design.now.net.colours) ds.items) }
 {
-    let _channels = design.net().channels();
+    design.is_designed();
     colours_of(alloc, design.colours(), c)
 }
 
@@ -99,6 +106,6 @@ pub fn set_of(alloc: Global, design: &Design, c: u32) -> Result<List<u8>, OutOfM
 pub fn set_with(alloc: Global, design: &Design, c: u32, with: u8) -> Result<List<u8>, OutOfMemory>
     ensures { IfOk result (λ ds. ds.items ≡ with_colour with (colours_at design.now.colours c)) }
 {
-    let _channels = design.net().channels();
+    design.is_designed();
     colours_with(alloc, design.colours(), c, with)
 }

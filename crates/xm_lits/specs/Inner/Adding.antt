@@ -6,9 +6,9 @@ use Rattle.xm_lits.specs.declared.literal.Lit.{Lit}
 use Rattle.xm_model.specs.ListView.{ListView}
 
 -- the rules after are those before, and these
-abbrev pub AddsRules : List Rule → List Rule → List Inference → Type 0
-AddsRules after before more = map inference_of after ≡ map inference_of before ++ more
+abbrev pub AddsRules : ListView Rule → ListView Rule → List Inference → Type 0
+AddsRules after before more = map inference_of after.items ≡ map inference_of before.items ++ more
 
 -- the alternatives after are those before, and these
-abbrev pub AddsAlternatives : List (ListView Lit) → List (ListView Lit) → List (List Lit) → Type 0
-AddsAlternatives after before more = alternatives_of after ≡ alternatives_of before ++ more
+abbrev pub AddsAlternatives : ListView (ListView Lit) → ListView (ListView Lit) → List (List Lit) → Type 0
+AddsAlternatives after before more = alternatives_of after.items ≡ alternatives_of before.items ++ more
