@@ -1,12 +1,12 @@
 -- Literals that never hold together.
-use Rattle.std.specs.Prelude.{◌≡◌, ℕ, List, [], ◌∷◌, Option, Some, None, Bool, true, false, ◌&&◌, not, nat_eq, nat_lt}
+use Rattle.std.specs.Prelude.{◌≡◌, ℕ, List, [], ◌∷◌, Option, Some, Bool, true, false, ◌&&◌, not, nat_eq, nat_lt}
 use Rattle.std.specs.Prelude.{slice_get}
 use Rattle.xm_colours.specs.Family.{colours_at}
 use Rattle.xm_design.specs.Designed.{Designed}
 use Rattle.xm_lits.specs.Inference.{has_colour, idle_all}
 use Rattle.xm_lits.specs.declared.literal.Lit.{Lit}
-use Rattle.xm_lits.specs.declared.literal.Lit.TheVariants.{Stuck, Dead, Idle, Full, Has, Lacks}
-use Rattle.xm_model.specs.Component.{Component, Fork, Function, Join, Merge, Queue, Sink, Source, Switch}
+use Rattle.xm_lits.specs.declared.literal.Lit.TheVariants.{Dead, Idle, Has}
+use Rattle.xm_model.specs.Component.{Component, Queue, Source}
 use Rattle.xm_model.specs.Net.{Network, initiators}
 use Rattle.xm_model.specs.declared.primitive.SourceMode.{SourceMode}
 use Rattle.xm_model.specs.declared.primitive.SourceMode.TheVariants as source_mode

@@ -3,7 +3,7 @@ use Rattle.std.specs.Prelude.{◌≡◌, ◌≢◌, ◌⊎◌, ℕ, ◌+◌, ◌
 use Rattle.std.specs.Prelude.{slice_get, is_some}
 use Rattle.xm_lits.specs.declared.literal.Lit.{Lit}
 use Rattle.xm_lits.specs.declared.literal.Lit.TheVariants.{Stuck, Dead, Idle, Full, Has, Lacks}
-use Rattle.xm_model.specs.Component.{Component, Content, Fork, Function, Join, Merge, Queue, Sink, Source, Switch}
+use Rattle.xm_model.specs.Component.{Component, Content, Sink, Source}
 use Rattle.xm_model.specs.Net.{HasPrim, Network, capacity_of}
 use Rattle.xm_model.specs.Run.{IsRun, TapeFits, count}
 use Rattle.xm_model.specs.Signals.{Signals, packets_in}
