@@ -9,7 +9,7 @@ use Rattle.xm_model.specs.Component.{Component, Content, Fork, Function, Join, M
 use Rattle.xm_model.specs.Membership.{IsIn}
 use Rattle.xm_model.specs.Run.{count}
 use Rattle.xm_model.specs.Signals.{packets_in}
-use Rattle.xm_proof.specs.Lemmas.Integers.{distrib}
+use Rattle.xm_rows.specs.Lemmas.Integers.{distrib}
 use Rattle.xm_proof.specs.Tests.{entries_where, entry, of_pair, of_queue}
 use Rattle.xm_rows.specs.Row.{left_side}
 use Rattle.xm_rows.specs.declared.row.Entry.{Entry}

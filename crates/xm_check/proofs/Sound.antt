@@ -29,7 +29,8 @@ use Rattle.xm_model.specs.Membership.{IsIn, times}
 use Rattle.xm_model.specs.Run.{count}
 use Rattle.xm_model.specs.Signals.{packets_in}
 use Rattle.xm_proof.specs.Argument.{Argument, literals}
-use Rattle.xm_proof.specs.Lemmas.Integers.{negated, one_times, scaled}
+use Rattle.xm_proof.specs.Lemmas.Integers.{scaled}
+use Rattle.xm_rows.specs.Lemmas.Integers.{negated, one_times}
 use Rattle.xm_proof.specs.Lemmas.Refuting.{IsReading, goal_fails, on_path_holds}
 use Rattle.xm_proof.specs.Sums.{is_natural}
 use Rattle.xm_lits.specs.Paths.{is_on_path}

@@ -112,7 +112,7 @@ pub fn push_moves(
     Ok(())
 }
 
-/// HasInput away the moves of a colour where the table takes it to `e`.
+/// Takes away the moves of a colour where the table takes it to `e`.
 fn push_image(
     terms: &mut Vec<Entry>,
     places: &Places,
@@ -136,7 +136,7 @@ fn push_image(
     Ok(())
 }
 
-/// HasInput away the moves of each of these colours that the table takes to `e`.
+/// Takes away the moves of each of these colours that the table takes to `e`.
 pub fn push_taken(
     terms: &mut Vec<Entry>,
     places: &Places,

@@ -1,5 +1,6 @@
 -- Which alternative holds.
-use Rattle.std.proofs.Common.{◌≡◌, ◌≢◌, ℕ, suc, ◌≤◌, Some, None, List, [], ◌∷◌, map, slice_get, slice_index, nat_eq, nat_lt, cond, refl, sym, ◌∙◌, ap, subst, inl, inr, arith}
+use Rattle.std.proofs.Common.{◌≡◌, ◌≢◌, ℕ, suc, ◌≤◌, Some, None, List, [], ◌∷◌, map, slice_get, slice_index, nat_eq}
+use Rattle.std.proofs.Common.{nat_lt, cond, refl, sym, ◌∙◌, ap, subst, inl, inr, arith}
 use Rattle.std.proofs.lemmas.Bool.{cases_Bool, cases_eq, eq-eqb, ne_eqb, cond-true, cond-false}
 use Rattle.xm_lits.proofs.Forever.{AllHold, SomeHolds}
 use Rattle.xm_lits.specs.Inference.{idle_where, one_of, taken_to, with_colour, without}
@@ -12,7 +13,8 @@ use Rattle.xm_model.specs.Signals.{Signals}
 use Rattle.xm_lits.proofs.Repeat
 
 module _ (net : Network) (s : ℕ → ℕ → Content) (φ : ℕ → Signals) where
-  pub some_one : (f : ℕ → List Lit) (ds : List ℕ) (e : ℕ) → IsIn ds e → AllHold net s φ (f e) → SomeHolds net s φ (one_of f ds)
+  pub some_one : (f : ℕ → List Lit) (ds : List ℕ) (e : ℕ) → IsIn ds e → AllHold net s φ (f e) →
+      SomeHolds net s φ (one_of f ds)
   some_one f [] e inside holds = absurd inside
   some_one f (d ∷ ds) e inside holds =
       elim inside [ inl same ↦ inl (subst (λ (x : ℕ). AllHold net s φ (f x)) (sym same) holds) | inr rest ↦ inr (some_one f ds e rest holds) ]
@@ -21,7 +23,8 @@ module _ (net : Network) (s : ℕ → ℕ → Content) (φ : ℕ → Signals) wh
   all_idle c [] none = tt
   all_idle c (d ∷ ds) none = (λ t here. let quiet = none t in cc, all_idle c ds none)
 
-  pub all_idle_of : (c : ℕ) (ds : List ℕ) → ((d : ℕ) → IsIn ds d → Repeat.Idle c d φ) → AllHold net s φ (map (λ d. Idle c d) ds)
+  pub all_idle_of : (c : ℕ) (ds : List ℕ) → ((d : ℕ) → IsIn ds d → Repeat.Idle c d φ) →
+      AllHold net s φ (map (λ d. Idle c d) ds)
   all_idle_of c [] none = tt
   all_idle_of c (d ∷ ds) none = (none d (inl refl), all_idle_of c ds (λ x h. none x (inr h)))
 
@@ -31,7 +34,8 @@ module _ (net : Network) (s : ℕ → ℕ → Content) (φ : ℕ → Signals) wh
     | inr none ↦ rw (cond-false (nat_lt 0 (times d ds)) (Idle c d ∷ []) [] none) tt
   ]
 
-pub in_taken_to : (table : List ℕ) (d x : ℕ) (xs : List ℕ) → IsIn xs x → slice_index table x ≡ d → IsIn (taken_to table d xs) x
+pub in_taken_to : (table : List ℕ) (d x : ℕ) (xs : List ℕ) → IsIn xs x → slice_index table x ≡ d →
+    IsIn (taken_to table d xs) x
 in_taken_to table d x [] inside maps = inside
 in_taken_to table d x (y ∷ ys) inside maps =
     elim (cases_eq (slice_index table y) d) [

@@ -1,5 +1,6 @@
 -- The arbiter of a merge, over cycles that repeat.
-use Rattle.std.proofs.Common.{◌≡◌, ℕ, zero, suc, ◌+◌, ◌<◌, Bool, true, false, ◌&&◌, Option, Some, None, refl, sym, ◌∙◌, ap, subst, inl, inr, is_some, arith, add-suc, add-zero, ◌-◌}
+use Rattle.std.proofs.Common.{◌≡◌, ℕ, zero, suc, ◌+◌, ◌<◌, Bool, true, false, ◌&&◌, Option, Some, None, refl, sym, ◌∙◌}
+use Rattle.std.proofs.Common.{ap, subst, inl, inr, is_some, arith, add-suc, add-zero, ◌-◌}
 use Rattle.std.specs.Prelude.{◌⊎◌}
 use Rattle.std.proofs.lemmas.Bool.{and_right, false_from_ne_true}
 use Rattle.xm_design.specs.Lemmas.Offers.{is_some_true}
@@ -13,7 +14,8 @@ use Rattle.xm_model.specs.declared.primitive.Side.TheVariants.{A, B}
 -- a merge in every cycle
 pub record MergeRun (a b out : ℕ) (pref : ℕ → Side) (φ : ℕ → Signals) : Type 0 where
   pub equation : (t : ℕ) → MergeEquation a b out (pref t) (φ t)
-  pub step : (t : ℕ) → pref (suc t) ≡ next_pref (pref t) (grant (pref t) ((φ t).offer a) ((φ t).offer b)) ((φ t).ready out)
+  pub step : (t : ℕ) →
+      pref (suc t) ≡ next_pref (pref t) (grant (pref t) ((φ t).offer a) ((φ t).offer b)) ((φ t).ready out)
 
 -- what is granted offers
 pub granted_some : (pref : Side) (x y : Option ℕ) (d : ℕ) → granted_offer (grant pref x y) x y ≡ Some d →
@@ -48,13 +50,15 @@ module _ (a b out : ℕ) (pref : ℕ → Side) (φ : ℕ → Signals) (run : Mer
       let turn : pref (suc t) ≡ B = run.step t ∙ rw (is, stuck) in
       (rw (turn, again), again)
 
-  a_forever : (d : ℕ) → Stays a φ → Dead out d φ → granted 0 ≡ Some A → (φ 0).offer a ≡ Some d → (t : ℕ) → (granted t ≡ Some A) × ((φ t).offer a ≡ Some d)
+  a_forever : (d : ℕ) → Stays a φ → Dead out d φ → granted 0 ≡ Some A → (φ 0).offer a ≡ Some d → (t : ℕ) →
+      (granted t ≡ Some A) × ((φ t).offer a ≡ Some d)
   a_forever d stays dead is is_offered zero = (is, is_offered)
   a_forever d stays dead is is_offered (suc t) =
       let before = a_forever d stays dead is is_offered t in
       a_holds t d stays before.0 before.1 (dead t).1
 
-  b_forever : (d : ℕ) → Stays b φ → Dead out d φ → granted 0 ≡ Some B → (φ 0).offer b ≡ Some d → (t : ℕ) → (granted t ≡ Some B) × ((φ t).offer b ≡ Some d)
+  b_forever : (d : ℕ) → Stays b φ → Dead out d φ → granted 0 ≡ Some B → (φ 0).offer b ≡ Some d → (t : ℕ) →
+      (granted t ≡ Some B) × ((φ t).offer b ≡ Some d)
   b_forever d stays dead is is_offered zero = (is, is_offered)
   b_forever d stays dead is is_offered (suc t) =
       let before = b_forever d stays dead is is_offered t in
@@ -69,7 +73,8 @@ module _ (a b out : ℕ) (pref : ℕ → Side) (φ : ℕ → Signals) (run : Mer
       ]
 
 -- the two sides of a merge may be swapped
-pub grant-other : (pref : Side) (x y : Option ℕ) → granted_offer (grant (other pref) y x) y x ≡ granted_offer (grant pref x y) x y
+pub grant-other : (pref : Side) (x y : Option ℕ) →
+    granted_offer (grant (other pref) y x) y x ≡ granted_offer (grant pref x y) x y
 grant-other A (Some x) (Some y) = refl
 grant-other A (Some x) None = refl
 grant-other A None (Some y) = refl
@@ -99,7 +104,8 @@ is_b-other B (Some x) None = refl
 is_b-other B None (Some y) = refl
 is_b-other B None None = refl
 
-pub next_pref-other : (pref : Side) (x y : Option ℕ) (moved : Bool) → next_pref (other pref) (grant (other pref) y x) moved ≡ other (next_pref pref (grant pref x y) moved)
+pub next_pref-other : (pref : Side) (x y : Option ℕ) (moved : Bool) →
+    next_pref (other pref) (grant (other pref) y x) moved ≡ other (next_pref pref (grant pref x y) moved)
 next_pref-other A (Some x) (Some y) true = refl
 next_pref-other A (Some x) (Some y) false = refl
 next_pref-other A (Some x) None true = refl
@@ -115,7 +121,8 @@ next_pref-other B None (Some y) true = refl
 next_pref-other B None (Some y) false = refl
 next_pref-other B None None moved = refl
 
-pub swapped : (a b out : ℕ) (pref : ℕ → Side) (φ : ℕ → Signals) → MergeRun a b out pref φ → MergeRun b a out (λ t. other (pref t)) φ
+pub swapped : (a b out : ℕ) (pref : ℕ → Side) (φ : ℕ → Signals) → MergeRun a b out pref φ →
+    MergeRun b a out (λ t. other (pref t)) φ
 swapped a b out pref φ run =
     record {
       equation = λ t. record {
@@ -127,7 +134,8 @@ swapped a b out pref φ run =
     }
 
 -- where side a always offers, it is granted or the other side is
-pub grant_cases : (pref : Side) (x y : Option ℕ) (d : ℕ) → x ≡ Some d → (grant pref x y ≡ Some A) ⊎ ((grant pref x y ≡ Some B) × (is_some y ≡ true))
+pub grant_cases : (pref : Side) (x y : Option ℕ) (d : ℕ) → x ≡ Some d →
+    (grant pref x y ≡ Some A) ⊎ ((grant pref x y ≡ Some B) × (is_some y ≡ true))
 grant_cases A (Some x) y d h = inl refl
 grant_cases A None y d h = cc
 grant_cases B x (Some y) d h = inr (refl, refl)
@@ -170,7 +178,8 @@ module _ (a b out : ℕ) (pref : ℕ → Side) (φ : ℕ → Signals) (run : Mer
       ]
 
   -- a side that always offers makes the output offer
-  pub out_offers : (t d : ℕ) → (φ t).offer a ≡ Some d → (e : ℕ) × ((φ t).offer out ≡ Some e) × ((e ≡ d) ⊎ ((φ t).offer b ≡ Some e))
+  pub out_offers : (t d : ℕ) → (φ t).offer a ≡ Some d →
+      (e : ℕ) × ((φ t).offer out ≡ Some e) × ((e ≡ d) ⊎ ((φ t).offer b ≡ Some e))
   out_offers t d h =
       elim (grant_cases (pref t) ((φ t).offer a) ((φ t).offer b) d h) [
         | inl is ↦ (d, (run.equation t).offer_out ∙ rw is h, inl refl)
@@ -178,7 +187,8 @@ module _ (a b out : ℕ) (pref : ℕ → Side) (φ : ℕ → Signals) (run : Mer
       ]
 
   -- an offer on a channel that is never ready stays
-  pub stays_on : (c d : ℕ) → Stays c φ → ((t : ℕ) → (φ t).ready c ≡ false) → (φ 0).offer c ≡ Some d → (t : ℕ) → (φ t).offer c ≡ Some d
+  pub stays_on : (c d : ℕ) → Stays c φ → ((t : ℕ) → (φ t).ready c ≡ false) → (φ 0).offer c ≡ Some d → (t : ℕ) →
+      (φ t).offer c ≡ Some d
   stays_on c d stays never here zero = here
   stays_on c d stays never here (suc t) = stays t d (stays_on c d stays never here t) (never t)
 

@@ -1,8 +1,10 @@
 -- The rules of blocked and idle channels, primitive by primitive.
-use Rattle.std.proofs.Common.{◌≡◌, ℕ, zero, suc, ◌+◌, ◌%◌, ◌<◌, Bool, true, false, ◌&&◌, Option, Some, None, List, slice_index, refl, sym, ◌∙◌, ap, inl, inr, is_some, arith, add-suc, add-zero}
+use Rattle.std.proofs.Common.{◌≡◌, ℕ, zero, suc, ◌+◌, ◌%◌, ◌<◌, Bool, true, false, ◌&&◌, Option, Some, None, List}
+use Rattle.std.proofs.Common.{slice_index, refl, sym, ◌∙◌, ap, inl, inr, is_some, arith, add-suc, add-zero}
 use Rattle.std.specs.Prelude.{◌⊎◌}
 use Rattle.std.proofs.lemmas.Bool.{and_left, and_right, and_parts, and_from, and_cases, or_parts, false_from_ne_true}
-use Rattle.xm_design.specs.Lemmas.Offers.{is_some_false, is_some_true, only_if-false, only_if-true, only_if_some, through_some, to_side_a_some, to_side_b_some}
+use Rattle.xm_design.specs.Lemmas.Offers.{is_some_false, is_some_true, only_if-false, only_if-true, only_if_some}
+use Rattle.xm_design.specs.Lemmas.Offers.{through_some, to_side_a_some, to_side_b_some}
 use Rattle.xm_lits.proofs.Round.{at_remainder, bounded_search, from_one_on, offered_or_idle}
 use Rattle.xm_lits.proofs.Repeat.{Dead, Idle, Stays, Stuck}
 use Rattle.xm_persist.specs.Rights.{ReadyStays}
@@ -16,13 +18,15 @@ of_side A d v = refl
 of_side B d v = refl
 
 module _ (φ : ℕ → Signals) (n : ℕ) (is_long : 0 < n) (again : (t : ℕ) → φ (t + n) ≡ φ t) where
-  goes_on : (c d : ℕ) → Stays c φ → ((u : ℕ) → (φ u).offer c ≡ Some d → (φ u).ready c ≡ false) → (t : ℕ) → (φ t).offer c ≡ Some d → (k : ℕ) → (φ (t + k)).offer c ≡ Some d
+  goes_on : (c d : ℕ) → Stays c φ → ((u : ℕ) → (φ u).offer c ≡ Some d → (φ u).ready c ≡ false) → (t : ℕ) →
+      (φ t).offer c ≡ Some d → (k : ℕ) → (φ (t + k)).offer c ≡ Some d
   goes_on c d stays shut t here zero = rw add-zero here
   goes_on c d stays shut t here (suc k) =
       let before = goes_on c d stays shut t here k in rw add-suc (stays (t + k) d before (shut (t + k) before))
 
   -- an offer that is never taken where it stands is dead
-  pub dead_when : (c d : ℕ) → Stays c φ → ((u : ℕ) → (φ u).offer c ≡ Some d → (φ u).ready c ≡ false) → (t : ℕ) → (φ t).offer c ≡ Some d → Dead c d φ
+  pub dead_when : (c d : ℕ) → Stays c φ → ((u : ℕ) → (φ u).offer c ≡ Some d → (φ u).ready c ≡ false) → (t : ℕ) →
+      (φ t).offer c ≡ Some d → Dead c d φ
   dead_when c d stays shut t here i =
       let always = from_one_on φ n is_long again (λ f. f.offer c ≡ Some d) t (goes_on c d stays shut t here) i in (always, shut i always)
 
@@ -34,7 +38,8 @@ module _ (φ : ℕ → Signals) (n : ℕ) (is_long : 0 < n) (again : (t : ℕ) �
         | inr none ↦ inr (λ t. is_some_false ((φ t).offer c) (ap (λ f. is_some (f.offer c)) (sym (at_remainder φ n is_long again t)) ∙ none (t % n) (omega arith)))
       ]
 
-  pub stuck_is_dead_or_idle : (c : ℕ) → Stays c φ → Stuck c φ → ((d : ℕ) × Dead c d φ) ⊎ ((t : ℕ) → (φ t).offer c ≡ None)
+  pub stuck_is_dead_or_idle : (c : ℕ) → Stays c φ → Stuck c φ →
+      ((d : ℕ) × Dead c d φ) ⊎ ((t : ℕ) → (φ t).offer c ≡ None)
   stuck_is_dead_or_idle c stays stuck =
       elim (offers_or_not c) [ inl w ↦ inl (w.1.0, dead_when c w.1.0 stays (λ u h. stuck u) w.0 w.1.1) | inr none ↦ inr none ]
 
@@ -45,7 +50,8 @@ module _ (φ : ℕ → Signals) (n : ℕ) (is_long : 0 < n) (again : (t : ℕ) �
     pub dead_function_in : (d : ℕ) → Dead input d φ → Dead out (slice_index table d) φ
     dead_function_in d dead t = ((e t).offer_out ∙ ap (through table) (dead t).0, sym (e t).ready_in ∙ (dead t).1)
 
-    pub dead_function_out : (d : ℕ) → Stays input φ → Dead out d φ → (x : ℕ) × (Dead input x φ × (slice_index table x ≡ d))
+    pub dead_function_out : (d : ℕ) → Stays input φ → Dead out d φ →
+        (x : ℕ) × (Dead input x φ × (slice_index table x ≡ d))
     dead_function_out d stays dead =
         let x = through_some table ((φ 0).offer input) d (sym (e 0).offer_out ∙ (dead 0).0) in
         (x.0, (dead_when input x.0 stays (λ u h. (e u).ready_in ∙ (dead u).1) 0 x.1, x.2))
@@ -55,7 +61,8 @@ module _ (φ : ℕ → Signals) (n : ℕ) (is_long : 0 < n) (again : (t : ℕ) �
 
   module _ (input a b : ℕ) (ta tb : List ℕ) (e : (t : ℕ) → ForkEquation input a b ta tb (φ t)) where
     -- an output that is ready beside a stuck input stays ready
-    pub stuck_fork : ((t : ℕ) → ReadyStays a (φ t) (φ (suc t))) → ((t : ℕ) → ReadyStays b (φ t) (φ (suc t))) → Stuck input φ → Stuck a φ ⊎ Stuck b φ
+    pub stuck_fork : ((t : ℕ) → ReadyStays a (φ t) (φ (suc t))) → ((t : ℕ) → ReadyStays b (φ t) (φ (suc t))) →
+        Stuck input φ → Stuck a φ ⊎ Stuck b φ
     stuck_fork ready_a ready_b stuck =
         elim (bounded_search (λ t. (φ t).ready a) n) [
           | inl w ↦ inr (λ t. other_shut t (from_one_on φ n is_long again (λ f. f.ready a ≡ true) w.0 (stays_ready w.0 w.2) t))
@@ -76,7 +83,8 @@ module _ (φ : ℕ → Signals) (n : ℕ) (is_long : 0 < n) (again : (t : ℕ) �
         let x = through_some ta ((φ 0).offer input) d o.1 in
         (x.0, (dead_when input x.0 stays (λ u h. (e u).ready_in ∙ and_left ((φ u).ready a) ((φ u).ready b) (dead u).1) 0 x.1, x.2))
 
-    pub idle_fork_a : (d x : ℕ) → Stays input φ → slice_index ta x ≡ d → Idle a d φ → Idle input x φ ⊎ (Dead input x φ × Stuck b φ)
+    pub idle_fork_a : (d x : ℕ) → Stays input φ → slice_index ta x ≡ d → Idle a d φ →
+        Idle input x φ ⊎ (Dead input x φ × Stuck b φ)
     idle_fork_a d x stays maps idle =
         let shut : (u : ℕ) → (φ u).offer input ≡ Some x → (φ u).ready b ≡ false = λ u here. false_from_ne_true ((φ u).ready b) (λ is.
         idle u ((e u).offer_a ∙ only_if-true ((φ u).ready b) (through ta ((φ u).offer input)) is ∙ ap (through ta) here ∙ ap Some maps)) in
@@ -103,10 +111,12 @@ module _ (φ : ℕ → Signals) (n : ℕ) (is_long : 0 < n) (again : (t : ℕ) �
           | inr none ↦ inl none
         ]
 
-    out_of_both : (d v t : ℕ) → (φ t).offer a ≡ Some d → (φ t).offer b ≡ Some v → (φ t).offer out ≡ Some (at_side pass d v)
+    out_of_both : (d v t : ℕ) → (φ t).offer a ≡ Some d → (φ t).offer b ≡ Some v →
+        (φ t).offer out ≡ Some (at_side pass d v)
     out_of_both d v t on_a on_b = (e t).offer_out ∙ rw (on_a, on_b) (of_side pass d v)
 
-    pub dead_join_side : (d : ℕ) → Stays b φ → Dead a d φ → ((t : ℕ) → (φ t).offer b ≡ None) ⊎ ((v : ℕ) × (Dead b v φ × Dead out (at_side pass d v) φ))
+    pub dead_join_side : (d : ℕ) → Stays b φ → Dead a d φ →
+        ((t : ℕ) → (φ t).offer b ≡ None) ⊎ ((v : ℕ) × (Dead b v φ × Dead out (at_side pass d v) φ))
     dead_join_side d stays dead =
         elim (offers_or_not b) [
           | inl w ↦
@@ -115,7 +125,8 @@ module _ (φ : ℕ → Signals) (n : ℕ) (is_long : 0 < n) (again : (t : ℕ) �
           | inr none ↦ inl none
         ]
 
-    pub dead_join_out : (d : ℕ) → Stays a φ → Stays b φ → Dead out d φ → (x y : ℕ) × (Dead a x φ × Dead b y φ × (at_side pass x y ≡ d))
+    pub dead_join_out : (d : ℕ) → Stays a φ → Stays b φ → Dead out d φ →
+        (x y : ℕ) × (Dead a x φ × Dead b y φ × (at_side pass x y ≡ d))
     dead_join_out d stays_a stays_b dead =
         let o = only_if_some (is_some ((φ 0).offer a) && is_some ((φ 0).offer b)) (at_side pass ((φ 0).offer a) ((φ 0).offer b)) d (sym (e 0).offer_out ∙ (dead 0).0) in
         let both = and_parts (is_some ((φ 0).offer a)) (is_some ((φ 0).offer b)) o.0 in
@@ -131,7 +142,8 @@ module _ (φ : ℕ → Signals) (n : ℕ) (is_long : 0 < n) (again : (t : ℕ) �
           ),
         )
 
-    pub idle_join : (d : ℕ) → pass ≡ A → Stays a φ → Idle out d φ → Idle a d φ ⊎ (Dead a d φ × ((t : ℕ) → (φ t).offer b ≡ None))
+    pub idle_join : (d : ℕ) → pass ≡ A → Stays a φ → Idle out d φ →
+        Idle a d φ ⊎ (Dead a d φ × ((t : ℕ) → (φ t).offer b ≡ None))
     idle_join d passes stays idle =
         let alone : (u : ℕ) → (φ u).offer a ≡ Some d → (φ u).offer b ≡ None = λ u here.
         is_some_false ((φ u).offer b) (false_from_ne_true (is_some ((φ u).offer b)) (λ is.
@@ -145,7 +157,8 @@ module _ (φ : ℕ → Signals) (n : ℕ) (is_long : 0 < n) (again : (t : ℕ) �
         ]
 
   module _ (input a b : ℕ) (to_a : List Bool) (e : (t : ℕ) → SwitchEquation input a b to_a (φ t)) where
-    pub dead_switch_in : (d : ℕ) → Dead input d φ → (takes_a to_a d ≡ true → Dead a d φ) × (takes_a to_a d ≡ false → Dead b d φ)
+    pub dead_switch_in : (d : ℕ) → Dead input d φ →
+        (takes_a to_a d ≡ true → Dead a d φ) × (takes_a to_a d ≡ false → Dead b d φ)
     dead_switch_in d dead = (
       λ is t.
           let on_a : (φ t).offer a ≡ Some d = (e t).offer_a ∙ rw ((dead t).0, is) in

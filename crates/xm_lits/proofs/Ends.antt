@@ -1,5 +1,6 @@
 -- What is no channel has no ends, and a primitive of the net fits it.
-use Rattle.std.proofs.Common.{◌≡◌, ℕ, ◌+◌, ◌<◌, ◌≤◌, false, List, [], ◌∷◌, ◌++◌, map, All, nat_eq, refl, ap, ◌∙◌, arith, suc}
+use Rattle.std.proofs.Common.{◌≡◌, ℕ, ◌+◌, ◌<◌, ◌≤◌, false, List, [], ◌∷◌, ◌++◌, map, All, nat_eq, refl, ap, ◌∙◌, arith}
+use Rattle.std.proofs.Common.{suc}
 use Rattle.std.proofs.lemmas.Bool.{ne_eqb}
 use Rattle.xm_model.specs.Component.{Component}
 use Rattle.xm_model.specs.Net.{IsNet, Network, ends_at, initiators, inputs, outputs, ports, targets}
@@ -12,7 +13,8 @@ none_of_one (k ∷ cs) n b c all h =
     let miss : nat_eq k c ≡ false = ne_eqb k c (λ same. absurd (omega arith)) in
     rw miss (none_of_one cs n b c (λ i d below. all (suc i) d (omega arith)) h)
 
-none_of_all : (f : Component → List ℕ) (ms : List Component) (n b c : ℕ) → All (λ m. All (λ k. k < n) (f m)) ms → n ≤ c → ends_at (ports f ms b) c ≡ []
+none_of_all : (f : Component → List ℕ) (ms : List Component) (n b c : ℕ) → All (λ m. All (λ k. k < n) (f m)) ms →
+    n ≤ c → ends_at (ports f ms b) c ≡ []
 none_of_all f [] n b c all h = refl
 none_of_all f (m ∷ ms) n b c all h =
     let here = none_of_one (f m) n b c (all 0 m (omega arith)) h in

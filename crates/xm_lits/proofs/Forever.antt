@@ -39,15 +39,20 @@ AllSound net s φ (r ∷ rs) = SomeHolds net s φ r.alternatives × AllSound net
 pub record IsForever (net : Network) (colours : ℕ → List ℕ) (n : ℕ) (w : ℕ → ℕ → Choice) (s : ℕ → ℕ → Content) (φ : ℕ → Signals) : Type 0 where
   pub is_net : IsNet net
   pub offers_stay : (c : ℕ) → c < net.channels → Repeat.Stays c φ
-  pub forks_stay_a : (i input a b : ℕ) (ta tb : List ℕ) → HasPrim net i (Fork input a b ta tb) → (t : ℕ) → ReadyStays a (φ t) (φ (suc t))
-  pub forks_stay_b : (i input a b : ℕ) (ta tb : List ℕ) → HasPrim net i (Fork input a b ta tb) → (t : ℕ) → ReadyStays b (φ t) (φ (suc t))
+  pub forks_stay_a : (i input a b : ℕ) (ta tb : List ℕ) → HasPrim net i (Fork input a b ta tb) → (t : ℕ) →
+      ReadyStays a (φ t) (φ (suc t))
+  pub forks_stay_b : (i input a b : ℕ) (ta tb : List ℕ) → HasPrim net i (Fork input a b ta tb) → (t : ℕ) →
+      ReadyStays b (φ t) (φ (suc t))
   pub is_long : 0 < n
   pub frames : (t : ℕ) → IsFrame net (s t) (w t) (φ t)
   pub steps : (t i : ℕ) → s (suc t) i ≡ next net (s t) (φ t) i
   pub frames_again : (t : ℕ) → φ (t + n) ≡ φ t
   pub states_again : (t i : ℕ) → s (t + n) i ≡ s t i
   pub sinks : (i input : ℕ) (mode : SinkMode) → HasPrim net i (Sink input mode) → (t : ℕ) × ((φ t).ready input ≡ true)
-  pub sources : (i out : ℕ) (cs : List ℕ) → HasPrim net i (Source out cs source_mode.Fair) → (t : ℕ) × (is_some ((φ t).offer out) ≡ true)
-  pub fits : (i input out capacity t : ℕ) (initial : List ℕ) → HasPrim net i (Queue input out capacity initial) → length (packets_in (s t i)) ≤ capacity
-  pub packets : (i input out capacity j d : ℕ) (initial : List ℕ) → HasPrim net i (Queue input out capacity initial) → slice_get (packets_in (s 0 i)) j ≡ Some d → IsIn (colours out) d
+  pub sources : (i out : ℕ) (cs : List ℕ) → HasPrim net i (Source out cs source_mode.Fair) →
+      (t : ℕ) × (is_some ((φ t).offer out) ≡ true)
+  pub fits : (i input out capacity t : ℕ) (initial : List ℕ) → HasPrim net i (Queue input out capacity initial) →
+      length (packets_in (s t i)) ≤ capacity
+  pub packets : (i input out capacity j d : ℕ) (initial : List ℕ) → HasPrim net i (Queue input out capacity initial) →
+      slice_get (packets_in (s 0 i)) j ≡ Some d → IsIn (colours out) d
   pub coloured : (t c d : ℕ) → c < net.channels → (φ t).offer c ≡ Some d → IsIn (colours c) d

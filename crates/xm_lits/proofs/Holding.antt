@@ -1,5 +1,7 @@
 -- The rules and clashes hold on every fair repeating run.
-use Rattle.std.proofs.Common.{◌≡◌, ◌≢◌, ℕ, suc, ◌+◌, ◌%◌, ◌<◌, ◌≤◌, Bool, true, false, not, nat_eq, nat_lt, ◌&&◌, Option, Some, None, List, [], ◌∷◌, map, length, slice_get, refl, sym, ◌∙◌, ap, subst, inl, inr, is_some, arith}
+use Rattle.std.proofs.Common.{◌≡◌, ◌≢◌, ℕ, suc, ◌+◌, ◌%◌, ◌<◌, ◌≤◌, Bool, true, false, not, nat_eq, nat_lt, ◌&&◌}
+use Rattle.std.proofs.Common.{Option, Some, None, List, [], ◌∷◌, map, length, slice_get, refl, sym, ◌∙◌, ap, subst, inl}
+use Rattle.std.proofs.Common.{inr, is_some, arith}
 use Rattle.std.proofs.Math.Nat.{mod-lt}
 use Rattle.xm_colours.specs.Family.{colours_at}
 use Rattle.xm_design.specs.ColouredRuns.{ColoursHold}
@@ -10,10 +12,13 @@ use Rattle.xm_lits.proofs.Forever.{AllSound, IsForever, SomeHolds}
 use Rattle.xm_lits.proofs.Repeat
 use Rattle.xm_lits.proofs.Channels.{dead_when}
 use Rattle.xm_lits.proofs.Sound.{dead_sound_above, dead_sound_below, idle_sound, sound-append, stuck_sound}
-use Rattle.xm_lits.proofs.Unroll.{at_own_place, below, first_place, frames_again, frames_for_ever, states_again, steps_for_ever}
+use Rattle.xm_lits.proofs.Unroll.{at_own_place, below, first_place, frames_again, frames_for_ever, states_again}
+use Rattle.xm_lits.proofs.Unroll.{steps_for_ever}
 use Rattle.std.proofs.lemmas.Bool.{and_parts, eq-eqb, eqb-true, ltb-false, ltb-true}
-use Rattle.xm_lits.specs.Clashes.{IsClash, all_idle, is_offering, lacks_colour, offers_again, one_offers, one_outside, are_opposed, is_outside, two_opposed}
-use Rattle.xm_lits.specs.Inference.{Inference, by_one, has_colour, by_prim, idle_rules, offering_rules, passing_rules, rules_at, stuck_rules}
+use Rattle.xm_lits.specs.Clashes.{IsClash, all_idle, is_offering, lacks_colour, offers_again, one_offers, one_outside}
+use Rattle.xm_lits.specs.Clashes.{are_opposed, is_outside, two_opposed}
+use Rattle.xm_lits.specs.Inference.{Inference, by_one, has_colour, by_prim, idle_rules, offering_rules, passing_rules}
+use Rattle.xm_lits.specs.Inference.{rules_at, stuck_rules}
 use Rattle.xm_lits.specs.Laws.{ClashesHold, IsFairRun, JamsAreDead, RulesHold}
 use Rattle.xm_lits.specs.Repeating.{AllOf, Holds, IsJammed, Repetition, SomeOf}
 use Rattle.xm_lits.specs.declared.literal.Lit.{Lit}
@@ -34,7 +39,8 @@ use Rattle.xm_model.specs.declared.primitive.SourceMode.TheVariants as source_mo
 use Rattle.xm_persist.specs.Rights.{ForksTarget, Granted, GrantsHold, Initiator, HoldsOver, Right, Target}
 
 -- an eager source offers
-eager_offers : (cs : List ℕ) (pending choice : Option ℕ) → 0 < length cs → (d : ℕ) × (source_offer source_mode.Eager cs pending choice ≡ Some d)
+eager_offers : (cs : List ℕ) (pending choice : Option ℕ) → 0 < length cs →
+    (d : ℕ) × (source_offer source_mode.Eager cs pending choice ≡ Some d)
 eager_offers [] pending choice h = absurd (omega arith)
 eager_offers (c ∷ cs) None None h = (c, refl)
 eager_offers (c ∷ cs) None (Some d) h = (d, refl)
@@ -75,7 +81,8 @@ module _ (grants : GrantsHold) (forks : ForksTarget) (coloured : ColoursHold) (i
   kept : (right : Right) → Granted it.net right → (t : ℕ) → HoldsOver right (frames t) (frames (suc t))
   kept right granted t = grants it.net (states t) (chosen t) (chosen (suc t)) (frames t) (frames (suc t)) right (frames_for_ever it.net r run.repeating t) (then t) granted
 
-  fork_targets : (i input a b : ℕ) (ta tb : List ℕ) → HasPrim it.net i (Fork input a b ta tb) → Granted it.net (Target a) × Granted it.net (Target b)
+  fork_targets : (i input a b : ℕ) (ta tb : List ℕ) → HasPrim it.net i (Fork input a b ta tb) →
+      Granted it.net (Target a) × Granted it.net (Target b)
   fork_targets i input a b ta tb has =
       let wired = counted it.net run.designed.net in
       forks it.net i input a b ta tb run.designed.net has
@@ -132,16 +139,20 @@ module _ (grants : GrantsHold) (forks : ForksTarget) (coloured : ColoursHold) (i
   all_come_back [] h = tt
   all_come_back (l ∷ ls) h = (come_back l h.0, all_come_back ls h.1)
 
-  some_come_back : (alternatives : List (List Lit)) → SomeOf (forever.Holds it.net states frames) alternatives → SomeOf (Holds it.net r) alternatives
+  some_come_back : (alternatives : List (List Lit)) → SomeOf (forever.Holds it.net states frames) alternatives →
+      SomeOf (Holds it.net r) alternatives
   some_come_back [] h = h
   some_come_back (a ∷ others) h = elim h [ inl x ↦ inl (all_come_back a x) | inr x ↦ inr (some_come_back others x) ]
 
   -- the rules by the one end of a channel hold where those by each such end do
-  by_end : (f : ℕ → Component → List Inference) (p : ℕ) → (o : Option Component) → ((m : Component) → o ≡ Some m → AllSound it.net states frames (f p m)) → AllSound it.net states frames (by_prim f p o)
+  by_end : (f : ℕ → Component → List Inference) (p : ℕ) → (o : Option Component) →
+      ((m : Component) → o ≡ Some m → AllSound it.net states frames (f p m)) →
+      AllSound it.net states frames (by_prim f p o)
   by_end f p None sound = tt
   by_end f p (Some m) sound = sound m refl
 
-  by_taker : (c : ℕ) (f : ℕ → Component → List Inference) → ((p : ℕ) (m : Component) → HasPrim it.net p m → HasInput m c → AllSound it.net states frames (f p m)) →
+  by_taker : (c : ℕ) (f : ℕ → Component → List Inference) →
+      ((p : ℕ) (m : Component) → HasPrim it.net p m → HasInput m c → AllSound it.net states frames (f p m)) →
       (ps : List ℕ) → targets it.net.prims c ≡ ps → AllSound it.net states frames (by_one f it.net ps)
   by_taker c f sound [] at = tt
   by_taker c f sound (p ∷ []) at =
@@ -149,7 +160,8 @@ module _ (grants : GrantsHold) (forks : ForksTarget) (coloured : ColoursHold) (i
       by_end f p (slice_get it.net.prims p) (λ m has. sound p m has (subst (λ (x : Component). HasInput x c) (let e : target.prim ≡ m = cc (target.has, has) in e) target.has_input))
   by_taker c f sound (p ∷ q ∷ ps) at = tt
 
-  by_driver : (c : ℕ) (f : ℕ → Component → List Inference) → ((p : ℕ) (m : Component) → HasPrim it.net p m → HasOutput m c → AllSound it.net states frames (f p m)) →
+  by_driver : (c : ℕ) (f : ℕ → Component → List Inference) →
+      ((p : ℕ) (m : Component) → HasPrim it.net p m → HasOutput m c → AllSound it.net states frames (f p m)) →
       (ps : List ℕ) → initiators it.net.prims c ≡ ps → AllSound it.net states frames (by_one f it.net ps)
   by_driver c f sound [] at = tt
   by_driver c f sound (p ∷ []) at =
@@ -157,7 +169,8 @@ module _ (grants : GrantsHold) (forks : ForksTarget) (coloured : ColoursHold) (i
       by_end f p (slice_get it.net.prims p) (λ m has. sound p m has (subst (λ (x : Component). HasOutput x c) (let e : initiator.prim ≡ m = cc (initiator.has, has) in e) initiator.has_output))
   by_driver c f sound (p ∷ q ∷ ps) at = tt
 
-  all_sound : (l : Lit) → forever.Holds it.net states frames l → AllSound it.net states frames (rules_at it.net (colours_at it.colours) l)
+  all_sound : (l : Lit) → forever.Holds it.net states frames l →
+      AllSound it.net states frames (rules_at it.net (colours_at it.colours) l)
   all_sound (Stuck c) holds =
       by_taker c (stuck_rules (colours_at it.colours) c)
       (λ p m has takes. stuck_sound it.net (colours_at it.colours) r.cycle chosen states frames for_ever p m c has takes holds) (targets it.net.prims c) refl
@@ -177,25 +190,30 @@ module _ (grants : GrantsHold) (forks : ForksTarget) (coloured : ColoursHold) (i
   all_sound (Has q d) holds = tt
   all_sound (Lacks q d) holds = tt
 
-  sound_in : (rs : List Inference) (rule : Inference) → IsIn rs rule → AllSound it.net states frames rs → SomeHolds it.net states frames rule.alternatives
+  sound_in : (rs : List Inference) (rule : Inference) → IsIn rs rule → AllSound it.net states frames rs →
+      SomeHolds it.net states frames rule.alternatives
   sound_in [] rule at sound = absurd at
   sound_in (x ∷ xs) rule at sound =
       elim at [ inl same ↦ subst (λ (y : Inference). SomeHolds it.net states frames y.alternatives) same sound.0 | inr more ↦ sound_in xs rule more sound.1 ]
 
-  pub rule_holds : (l : Lit) (rule : Inference) → IsIn (rules_at it.net (colours_at it.colours) l) rule → Holds it.net r l → SomeOf (Holds it.net r) rule.alternatives
+  pub rule_holds : (l : Lit) (rule : Inference) → IsIn (rules_at it.net (colours_at it.colours) l) rule →
+      Holds it.net r l → SomeOf (Holds it.net r) rule.alternatives
   rule_holds l rule at holds = some_come_back rule.alternatives (sound_in (rules_at it.net (colours_at it.colours) l) rule at (all_sound l (go_on l holds)))
 
-  idle_each : (c d : ℕ) (ds : List ℕ) → AllOf (forever.Holds it.net states frames) (map (λ x. Idle c x) ds) → IsIn ds d → Repeat.Idle c d frames
+  idle_each : (c d : ℕ) (ds : List ℕ) → AllOf (forever.Holds it.net states frames) (map (λ x. Idle c x) ds) →
+      IsIn ds d → Repeat.Idle c d frames
   idle_each c d [] all inside = absurd inside
   idle_each c d (x ∷ xs) all inside =
       elim inside [ inl same ↦ subst (λ (y : ℕ). Repeat.Idle c y frames) same all.0 | inr rest ↦ idle_each c d xs all.1 rest ]
 
-  dead_idle_fails : (c d e f : ℕ) → (nat_eq c e && nat_eq d f) ≡ true → Repeat.Dead c d frames → Repeat.Idle e f frames → ⊥
+  dead_idle_fails : (c d e f : ℕ) → (nat_eq c e && nat_eq d f) ≡ true → Repeat.Dead c d frames →
+      Repeat.Idle e f frames → ⊥
   dead_idle_fails c d e f test dead idle =
       let both = and_parts (nat_eq c e) (nat_eq d f) test in let x = eqb-true c e both.0 in let y = eqb-true d f both.1 in
       idle 0 (ap (frames 0).offer (sym x) ∙ (dead 0).0 ∙ ap Some y)
 
-  opposed_fails : (l m : Lit) → are_opposed l m ≡ true → forever.Holds it.net states frames l → forever.Holds it.net states frames m → ⊥
+  opposed_fails : (l m : Lit) → are_opposed l m ≡ true → forever.Holds it.net states frames l →
+      forever.Holds it.net states frames m → ⊥
   opposed_fails (Dead c d) (Idle e f) test on_l on_m = dead_idle_fails c d e f test on_l on_m
   opposed_fails (Idle c d) (Dead e f) test on_l on_m =
       let both = and_parts (nat_eq c e) (nat_eq d f) test in let x = eqb-true c e both.0 in let y = eqb-true d f both.1 in
@@ -215,7 +233,8 @@ module _ (grants : GrantsHold) (forks : ForksTarget) (coloured : ColoursHold) (i
   not_outside : (ds : List ℕ) (d : ℕ) → IsIn ds d → has_colour ds d ≡ false → ⊥
   not_outside ds d inside test = let few = ltb-false 0 (times d ds) test in let some = in_some d ds inside in absurd (omega arith)
 
-  queue_fails : (q d : ℕ) (o : Option Component) → slice_get it.net.prims q ≡ o → lacks_colour (colours_at it.colours) d o ≡ true → forever.Holds it.net states frames (Has q d) → ⊥
+  queue_fails : (q d : ℕ) (o : Option Component) → slice_get it.net.prims q ≡ o →
+      lacks_colour (colours_at it.colours) d o ≡ true → forever.Holds it.net states frames (Has q d) → ⊥
   queue_fails q d (Some (Queue input out capacity initial)) has test on =
       let at = found d (packets_in (states 0 q)) on in
       not_outside (colours_at it.colours out) d (for_ever.packets q input out capacity at.0 d initial has at.1) (not_true (has_colour (colours_at it.colours out) d) test)
@@ -228,7 +247,8 @@ module _ (grants : GrantsHold) (forks : ForksTarget) (coloured : ColoursHold) (i
   outside_fails (Has q d) test on = queue_fails q d (slice_get it.net.prims q) refl test on
   outside_fails _ test on = true_false (sym test)
 
-  offers_some : (i c : ℕ) (cs : List ℕ) (mode : SourceMode) → offers_again mode ≡ true → HasPrim it.net i (Source c cs mode) → (t : ℕ) × ((d : ℕ) × ((frames t).offer c ≡ Some d))
+  offers_some : (i c : ℕ) (cs : List ℕ) (mode : SourceMode) → offers_again mode ≡ true →
+      HasPrim it.net i (Source c cs mode) → (t : ℕ) × ((d : ℕ) × ((frames t).offer c ≡ Some d))
   offers_some i c cs source_mode.Eager test has =
       let e = for_ever.frames 0 i (Source c cs source_mode.Eager) has in
       let o = eager_offers cs (pending_in (states 0 i)) (offer_chosen (chosen 0 i)) (prim_fits it.net run.designed.net i _ has).0 in
@@ -247,7 +267,8 @@ module _ (grants : GrantsHold) (forks : ForksTarget) (coloured : ColoursHold) (i
       idle_each c at.1.0 (colours_at it.colours c) all (for_ever.coloured at.0 c at.1.0 short at.1.1) at.0 at.1.1
   source_fails c p m has _ test all = true_false (sym test)
 
-  offered_fails : (c : ℕ) (ps : List ℕ) → initiators it.net.prims c ≡ ps → one_offers it.net ps ≡ true → AllOf (forever.Holds it.net states frames) (map (λ x. Idle c x) (colours_at it.colours c)) → ⊥
+  offered_fails : (c : ℕ) (ps : List ℕ) → initiators it.net.prims c ≡ ps → one_offers it.net ps ≡ true →
+      AllOf (forever.Holds it.net states frames) (map (λ x. Idle c x) (colours_at it.colours c)) → ⊥
   offered_fails c [] at test all = true_false (sym test)
   offered_fails c (p ∷ []) at test all =
       let initiator = initiator_from it.net p c (end_of outputs it.net.prims c p at) in
@@ -259,7 +280,8 @@ module _ (grants : GrantsHold) (forks : ForksTarget) (coloured : ColoursHold) (i
   clash_fails ls (one_outside l is) all = outside_fails l is (go_on l all.0)
   clash_fails ls (all_idle c is) all = offered_fails c (initiators it.net.prims c) refl is (all_go_on (map (λ x. Idle c x) (colours_at it.colours c)) all)
 
-  pub jam_is_dead : (c : ℕ) → c < it.net.channels → IsJammed r c → (d : ℕ) × (IsIn (colours_at it.colours c) d × Holds it.net r (Dead c d))
+  pub jam_is_dead : (c : ℕ) → c < it.net.channels → IsJammed r c →
+      (d : ℕ) × (IsIn (colours_at it.colours c) d × Holds it.net r (Dead c d))
   jam_is_dead c short jammed =
       let o = is_some_true ((frames 0).offer c) (jammed (0 % r.cycle) (mod-lt 0 run.repeating.is_long)).0 in
       let dead = dead_when frames r.cycle run.repeating.is_long for_ever.frames_again c o.0 (for_ever.offers_stay c short)

@@ -23,7 +23,8 @@ module _ (a b out : ℕ) (pref : ℕ → Side) (φ : ℕ → Signals) (run : Mer
       let before = keeps_on d t stays idle here k in
       rw add-suc (stays (t + k) d before (not_ready d (t + k) idle before))
 
-  pub dead_if_offered : (d t : ℕ) → Stays a φ → Stays out φ → Idle out d φ → (φ t).offer a ≡ Some d → (e : ℕ) × (Dead out e φ × (e ≢ d))
+  pub dead_if_offered : (d t : ℕ) → Stays a φ → Stays out φ → Idle out d φ → (φ t).offer a ≡ Some d →
+      (e : ℕ) × (Dead out e φ × (e ≢ d))
   dead_if_offered d t stays stays_out idle here =
       let always : (i : ℕ) → (φ i).offer a ≡ Some d = from_one_on φ n is_long again (λ f. f.offer a ≡ Some d) t (keeps_on d t stays idle here) in
       let never : (i : ℕ) → (φ i).ready out ≡ false =
@@ -32,8 +33,10 @@ module _ (a b out : ℕ) (pref : ℕ → Side) (φ : ℕ → Signals) (run : Mer
       let dead : Dead out o.0 φ = λ i. (stays_on a b out pref φ run n is_long again out o.0 stays_out never o.1 i, never i) in
       (o.0, (dead, λ same. idle 0 (o.1 ∙ ap Some same)))
 
-pub idle_merge : (a b out : ℕ) (pref : ℕ → Side) (φ : ℕ → Signals) → MergeRun a b out pref φ → (n : ℕ) → 0 < n → ((t : ℕ) → φ (t + n) ≡ φ t) →
-    (d : ℕ) → Stays a φ → Stays b φ → Stays out φ → Idle out d φ → (Idle a d φ × Idle b d φ) ⊎ ((e : ℕ) × (Dead out e φ × (e ≢ d)))
+pub idle_merge : (a b out : ℕ) (pref : ℕ → Side) (φ : ℕ → Signals) → MergeRun a b out pref φ → (n : ℕ) → 0 < n →
+    ((t : ℕ) → φ (t + n) ≡ φ t) →
+    (d : ℕ) → Stays a φ → Stays b φ → Stays out φ → Idle out d φ →
+    (Idle a d φ × Idle b d φ) ⊎ ((e : ℕ) × (Dead out e φ × (e ≢ d)))
 idle_merge a b out pref φ run n is_long again d stays_a stays_b stays_out idle =
     elim (offered_or_idle φ n is_long again a d) [
       | inl w ↦ inr (dead_if_offered a b out pref φ run n is_long again d w.0 stays_a stays_out idle w.1)

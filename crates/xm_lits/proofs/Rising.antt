@@ -1,5 +1,6 @@
 -- The numbers of a list that rises, up to a number.
-use Rattle.std.proofs.Common.{zero, suc, length, get_or, ◌≡◌, ℕ, nat_eq, not, slice_index, subst, ◌+◌, ◌<◌, ◌≤◌, Bool, true, false, cond, nat_lt, List, [], ◌∷◌, ◌++◌, refl, sym, ap, ◌∙◌, inl, inr, arith}
+use Rattle.std.proofs.Common.{zero, suc, length, get_or, ◌≡◌, ℕ, nat_eq, not, slice_index, subst, ◌+◌, ◌<◌, ◌≤◌, Bool}
+use Rattle.std.proofs.Common.{true, false, cond, nat_lt, List, [], ◌∷◌, ◌++◌, refl, sym, ap, ◌∙◌, inl, inr, arith}
 use Rattle.std.proofs.lemmas.Bool.{cases_lt, cond-false, cond-true, lt-ltb, le-ltb}
 use Rattle.std.proofs.lemmas.List.{append-nil}
 use Rattle.xm_colours.specs.Family.{Rises}
@@ -63,7 +64,8 @@ up_to-out d (x ∷ xs) out = elim (cases_lt x d) [
 ]
 
 -- those below d go on with d, where it is in the list
-pub goes_on : (test : Bool) (d : ℕ) (xs before after : List ℕ) → Rises xs → (IsTrue test ↔ IsIn xs d) → before ≡ up_to d xs → after ≡ before ++ cond test (d ∷ []) [] → after ≡ up_to (d + 1) xs
+pub goes_on : (test : Bool) (d : ℕ) (xs before after : List ℕ) → Rises xs → (IsTrue test ↔ IsIn xs d) →
+    before ≡ up_to d xs → after ≡ before ++ cond test (d ∷ []) [] → after ≡ up_to (d + 1) xs
 goes_on true d xs before after rise tells so_far last = last ∙ ap (λ (l : List ℕ). l ++ d ∷ []) so_far ∙ sym (up_to-in d xs rise (tells.0 refl))
 goes_on false d xs before after rise tells so_far last =
     let out : IsIn xs d → ⊥ = λ inside. (let h = tells.1 inside in cc) in
@@ -104,7 +106,8 @@ with_rises d (x ∷ xs) rise =
       ])
     ]
 
-pub without-append : (d : ℕ) (xs : List ℕ) (x : ℕ) → without d (xs ++ x ∷ []) ≡ without d xs ++ cond (not (nat_eq x d)) (x ∷ []) []
+pub without-append : (d : ℕ) (xs : List ℕ) (x : ℕ) →
+    without d (xs ++ x ∷ []) ≡ without d xs ++ cond (not (nat_eq x d)) (x ∷ []) []
 without-append d [] x = one (nat_eq x d) where
   one : (b : Bool) → cond b [] (x ∷ []) ≡ cond (not b) (x ∷ []) []
   one true = refl
@@ -115,10 +118,12 @@ without-append d (y ∷ ys) x = more (nat_eq y d) (without-append d ys x) where
   more true rest = rest
   more false rest = ap (λ (l : List ℕ). y ∷ l) rest
 
-pub taken_to-append : (table : List ℕ) (d : ℕ) (xs : List ℕ) (x : ℕ) → taken_to table d (xs ++ x ∷ []) ≡ taken_to table d xs ++ cond (nat_eq (slice_index table x) d) (x ∷ []) []
+pub taken_to-append : (table : List ℕ) (d : ℕ) (xs : List ℕ) (x : ℕ) →
+    taken_to table d (xs ++ x ∷ []) ≡ taken_to table d xs ++ cond (nat_eq (slice_index table x) d) (x ∷ []) []
 taken_to-append table d [] x = refl
 taken_to-append table d (y ∷ ys) x = more (nat_eq (slice_index table y) d) (taken_to-append table d ys x) where
-  more : (b : Bool) → taken_to table d (ys ++ x ∷ []) ≡ taken_to table d ys ++ cond (nat_eq (slice_index table x) d) (x ∷ []) [] →
+  more : (b : Bool) →
+      taken_to table d (ys ++ x ∷ []) ≡ taken_to table d ys ++ cond (nat_eq (slice_index table x) d) (x ∷ []) [] →
       cond b (y ∷ taken_to table d (ys ++ x ∷ [])) (taken_to table d (ys ++ x ∷ [])) ≡ cond b (y ∷ taken_to table d ys) (taken_to table d ys) ++ cond (nat_eq (slice_index table x) d) (x ∷ []) []
   more true rest = ap (λ (l : List ℕ). y ∷ l) rest
   more false rest = rest

@@ -1,23 +1,30 @@
 -- Each rule holds on every fair cycle that repeats.
-use Rattle.std.proofs.Common.{◌≡◌, ◌≢◌, ℕ, ◌<◌, Bool, true, false, ◌&&◌, Option, Some, List, [], ◌∷◌, ◌++◌, slice_index, nat_eq, cond, refl, sym, ◌∙◌, ap, subst, inl, inr, is_some, arith}
+use Rattle.std.proofs.Common.{◌≡◌, ◌≢◌, ℕ, ◌<◌, Bool, true, false, ◌&&◌, Option, Some, List, [], ◌∷◌, ◌++◌, slice_index}
+use Rattle.std.proofs.Common.{nat_eq, cond, refl, sym, ◌∙◌, ap, subst, inl, inr, is_some, arith}
 use Rattle.std.specs.Prelude.{◌⊎◌}
 use Rattle.std.proofs.lemmas.Bool.{eq-eqb, ne_eqb, cases_Bool}
-use Rattle.xm_lits.proofs.Alternatives.{where_idle, all_idle, all_idle_of, in_taken_to, in_with_itself, in_with_other, in_without, some_one, taken_to_maps, times_head, times_none}
+use Rattle.xm_lits.proofs.Alternatives.{where_idle, all_idle, all_idle_of, in_taken_to, in_with_itself, in_with_other}
+use Rattle.xm_lits.proofs.Alternatives.{in_without, some_one, taken_to_maps, times_head, times_none}
 use Rattle.xm_model.specs.Lemmas.PrimitiveFits.{prim_fits}
 use Rattle.xm_lits.proofs.Arbiter.{MergeRun, dead_out, dead_side, swapped}
 use Rattle.xm_lits.proofs.IdleMerge.{idle_merge}
 use Rattle.xm_lits.proofs.Turnover.{QueueRun, idle_queue, stuck_queue}
 use Rattle.xm_lits.proofs.Forever.{AllSound, IsForever, SomeHolds}
-use Rattle.xm_lits.specs.Inference.{Inference, dead_one, idle_all, idle_rules, offering_rules, one_of, passing_rules, rule, stuck_rules, taken_to, via_rules, with_colour, without}
+use Rattle.xm_lits.specs.Inference.{Inference, dead_one, idle_all, idle_rules, offering_rules, one_of, passing_rules}
+use Rattle.xm_lits.specs.Inference.{rule, stuck_rules, taken_to, via_rules, with_colour, without}
 use Rattle.xm_lits.specs.Repeating.{capacity_at}
 use Rattle.xm_lits.specs.declared.inference.RuleName.TheVariants.{I6}
 use Rattle.xm_lits.specs.declared.literal.Lit.TheVariants.{Stuck, Dead, Idle, Full}
-use Rattle.xm_model.specs.Lemmas.PortCounts.{IsCounted, counted, apart, at_first, at_second, output_below, input_below, times_within, times_within_in}
+use Rattle.xm_model.specs.Lemmas.PortCounts.{IsCounted, counted, apart, at_first, at_second, output_below, input_below}
+use Rattle.xm_model.specs.Lemmas.PortCounts.{times_within, times_within_in}
 use Rattle.xm_model.specs.Component.{Component, Content, Fork, Join, Merge, Queue, Switch}
 use Rattle.xm_model.specs.Frame.{Equation, ForkEquation, JoinEquation}
 use Rattle.xm_model.specs.Net.{HasPrim, Network}
 use Rattle.xm_model.specs.Next.{next_at}
-use Rattle.xm_model.specs.Ports.{HasOutput, HasInput, fork_output_a, fork_output_b, fork_input, function_output, function_input, join_output, join_input_a, join_input_b, merge_output, merge_input_a, merge_input_b, queue_output, queue_input, sink_input, source_output, switch_output_a, switch_output_b, switch_input}
+use Rattle.xm_model.specs.Ports.{HasOutput, HasInput, fork_output_a, fork_output_b, fork_input, function_output}
+use Rattle.xm_model.specs.Ports.{function_input, join_output, join_input_a, join_input_b, merge_output, merge_input_a}
+use Rattle.xm_model.specs.Ports.{merge_input_b, queue_output, queue_input, sink_input, source_output, switch_output_a}
+use Rattle.xm_model.specs.Ports.{switch_output_b, switch_input}
 use Rattle.xm_model.specs.Membership.{IsIn}
 use Rattle.xm_model.specs.Signals.{Signals, at_side, only_if, other, packets_in, pref_in, takes_a}
 use Rattle.xm_model.specs.declared.state.Choice.{Choice}
@@ -46,7 +53,8 @@ module _ (net : Network) (colours : ℕ → List ℕ) (n : ℕ) (w : ℕ → ℕ
   merge_run i a b out has =
       record { equation = λ t. now t i _ has; step = λ t. ap pref_in (fair.steps t i) ∙ ap (λ o. pref_in (next_at o (s t i) (φ t))) has }
 
-  queue_run : (i input out capacity : ℕ) (initial : List ℕ) → HasPrim net i (Queue input out capacity initial) → QueueRun input out capacity (λ t. packets_in (s t i)) φ
+  queue_run : (i input out capacity : ℕ) (initial : List ℕ) → HasPrim net i (Queue input out capacity initial) →
+      QueueRun input out capacity (λ t. packets_in (s t i)) φ
   queue_run i input out capacity initial has =
       record {
         holds_some = (prim_fits net fair.is_net i _ has).0;
@@ -64,13 +72,15 @@ module _ (net : Network) (colours : ℕ → List ℕ) (n : ℕ) (w : ℕ → ℕ
   in_colours : (c : ℕ) → c < net.channels → (d : ℕ) → Repeat.Dead c d φ → IsIn (colours c) d
   in_colours c below d dead = fair.coloured 0 c d below (dead 0).0
 
-  swapped_join : (a b out : ℕ) (pass : Side) → ((t : ℕ) → JoinEquation a b out pass (φ t)) → (t : ℕ) → JoinEquation b a out (other pass) (φ t)
+  swapped_join : (a b out : ℕ) (pass : Side) → ((t : ℕ) → JoinEquation a b out pass (φ t)) → (t : ℕ) →
+      JoinEquation b a out (other pass) (φ t)
   swapped_join a b out pass e t = record {
     offer_out = (e t).offer_out ∙ commuted pass (is_some ((φ t).offer a)) (is_some ((φ t).offer b)) ((φ t).offer a) ((φ t).offer b);
     ready_a = (e t).ready_b;
     ready_b = (e t).ready_a;
   } where
-    commuted : (pass : Side) (x y : Bool) (o u : Option ℕ) → only_if (x && y) (at_side pass o u) ≡ only_if (y && x) (at_side (other pass) u o)
+    commuted : (pass : Side) (x y : Bool) (o u : Option ℕ) →
+        only_if (x && y) (at_side pass o u) ≡ only_if (y && x) (at_side (other pass) u o)
     commuted A true true o u = refl
     commuted A true false o u = refl
     commuted A false true o u = refl
@@ -80,7 +90,8 @@ module _ (net : Network) (colours : ℕ → List ℕ) (n : ℕ) (w : ℕ → ℕ
     commuted B false true o u = refl
     commuted B false false o u = refl
 
-  swapped_fork : (input a b : ℕ) (ta tb : List ℕ) → ((t : ℕ) → ForkEquation input a b ta tb (φ t)) → (t : ℕ) → ForkEquation input b a tb ta (φ t)
+  swapped_fork : (input a b : ℕ) (ta tb : List ℕ) → ((t : ℕ) → ForkEquation input a b ta tb (φ t)) → (t : ℕ) →
+      ForkEquation input b a tb ta (φ t)
   swapped_fork input a b ta tb e t = record {
     offer_a = (e t).offer_b;
     offer_b = (e t).offer_a;
@@ -93,7 +104,8 @@ module _ (net : Network) (colours : ℕ → List ℕ) (n : ℕ) (w : ℕ → ℕ
     both false false = refl
 
   -- a channel that is stuck offers nothing, or one colour for ever
-  silent_or_dead : (c : ℕ) → c < net.channels → Repeat.Stays c φ → Repeat.Stuck c φ → SomeHolds net s φ (idle_all colours c ∷ dead_one c (colours c))
+  silent_or_dead : (c : ℕ) → c < net.channels → Repeat.Stays c φ → Repeat.Stuck c φ →
+      SomeHolds net s φ (idle_all colours c ∷ dead_one c (colours c))
   silent_or_dead c below stays_c stuck =
       elim (Channels.stuck_is_dead_or_idle φ n fair.is_long fair.frames_again c stays_c stuck) [
         | inl x ↦ inr (some_one net s φ (λ d. Dead c d ∷ []) (colours c) x.0 (in_colours c below x.0 x.1) (x.1, tt))
@@ -106,7 +118,8 @@ module _ (net : Network) (colours : ℕ → List ℕ) (n : ℕ) (w : ℕ → ℕ
       let once = wired.one_target a (input_below net wired i _ a has join_input_a) in
       apart a b (omega arith)
 
-  pub stuck_sound : (i : ℕ) (p : Component) (c : ℕ) → HasPrim net i p → HasInput p c → Repeat.Stuck c φ → AllSound net s φ (stuck_rules colours c i p)
+  pub stuck_sound : (i : ℕ) (p : Component) (c : ℕ) → HasPrim net i p → HasInput p c → Repeat.Stuck c φ →
+      AllSound net s φ (stuck_rules colours c i p)
   stuck_sound i p c has (sink_input {mode = mode}) stuck =
       let once = fair.sinks i c mode has in let never = stuck once.0 in let is = once.1 in absurd (cc)
   stuck_sound i p c has (queue_input {out = out} {capacity = capacity} {initial = initial}) stuck =
@@ -152,7 +165,9 @@ module _ (net : Network) (colours : ℕ → List ℕ) (n : ℕ) (w : ℕ → ℕ
   stuck_first c d dead = inl (λ t. (dead t).1, tt)
 
   -- a dead output of a merge whose side is dead
-  merge_out_dead : (a b out d : ℕ) → b < net.channels → (e : ℕ) × Repeat.Dead out e φ × ((e ≡ d) ⊎ ((φ 0).offer b ≡ Some e)) → SomeHolds net s φ (dead_one out (with_colour d (colours b)))
+  merge_out_dead : (a b out d : ℕ) → b < net.channels →
+      (e : ℕ) × Repeat.Dead out e φ × ((e ≡ d) ⊎ ((φ 0).offer b ≡ Some e)) →
+      SomeHolds net s φ (dead_one out (with_colour d (colours b)))
   merge_out_dead a b out d below x =
       some_one net s φ (λ e. Dead out e ∷ []) (with_colour d (colours b)) x.0
       (elim x.2 [
@@ -161,27 +176,31 @@ module _ (net : Network) (colours : ℕ → List ℕ) (n : ℕ) (w : ℕ → ℕ
       ])
       (x.1, tt)
 
-  passed_a : (pass : Side) (c b out d v : ℕ) → nat_eq b c ≡ false → Repeat.Dead out (at_side pass d v) φ → IsIn (colours b) v →
+  passed_a : (pass : Side) (c b out d v : ℕ) → nat_eq b c ≡ false → Repeat.Dead out (at_side pass d v) φ →
+      IsIn (colours b) v →
       SomeHolds net s φ (dead_one out (cond (nat_eq c (at_side pass c b)) (d ∷ []) (colours (at_side pass c b))))
   passed_a A c b out d v differ dead inside = rw (at_first c (d ∷ []) (colours c)) (inl (dead, tt))
   passed_a B c b out d v differ dead inside =
       let e : nat_eq c b ≡ false = ne_eqb c b (λ same. let yes' = eq-eqb b c (sym same) in cc) in
       rw (at_second b c (d ∷ []) (colours b) e) (some_one net s φ (λ x. Dead out x ∷ []) (colours b) v inside (dead, tt))
 
-  passed_b : (pass : Side) (a c out d v : ℕ) → nat_eq c a ≡ false → Repeat.Dead out (at_side (other pass) d v) φ → IsIn (colours a) v →
+  passed_b : (pass : Side) (a c out d v : ℕ) → nat_eq c a ≡ false → Repeat.Dead out (at_side (other pass) d v) φ →
+      IsIn (colours a) v →
       SomeHolds net s φ (dead_one out (cond (nat_eq c (at_side pass a c)) (d ∷ []) (colours (at_side pass a c))))
   passed_b B a c out d v differ dead inside = rw (at_first c (d ∷ []) (colours c)) (inl (dead, tt))
   passed_b A a c out d v differ dead inside =
       rw (at_second a c (d ∷ []) (colours a) differ) (some_one net s φ (λ x. Dead out x ∷ []) (colours a) v inside (dead, tt))
 
-  both_sides : (pass : Side) (a b d x y : ℕ) → a < net.channels → b < net.channels → Repeat.Dead a x φ → Repeat.Dead b y φ → at_side pass x y ≡ d →
+  both_sides : (pass : Side) (a b d x y : ℕ) → a < net.channels → b < net.channels → Repeat.Dead a x φ →
+      Repeat.Dead b y φ → at_side pass x y ≡ d →
       SomeHolds net s φ (one_of (λ e. Dead (at_side pass a b) d ∷ Dead (at_side pass b a) e ∷ []) (colours (at_side pass b a)))
   both_sides A a b d x y below_a below_b on_a on_b passed =
       some_one net s φ (λ e. Dead a d ∷ Dead b e ∷ []) (colours b) y (in_colours b below_b y on_b) (subst (λ (v : ℕ). Repeat.Dead a v φ) passed on_a, (on_b, tt))
   both_sides B a b d x y below_a below_b on_a on_b passed =
       some_one net s φ (λ e. Dead b d ∷ Dead a e ∷ []) (colours a) x (in_colours a below_a x on_a) (subst (λ (v : ℕ). Repeat.Dead b v φ) passed on_b, (on_a, tt))
 
-  pub dead_sound_below : (i : ℕ) (p : Component) (c d : ℕ) → HasPrim net i p → HasInput p c → Repeat.Dead c d φ → AllSound net s φ (passing_rules colours c d i p)
+  pub dead_sound_below : (i : ℕ) (p : Component) (c d : ℕ) → HasPrim net i p → HasInput p c → Repeat.Dead c d φ →
+      AllSound net s φ (passing_rules colours c d i p)
   dead_sound_below i p c d has sink_input dead = tt
   dead_sound_below i p c d has queue_input dead = tt
   dead_sound_below i p c d has (function_input {out = out} {table = table}) dead =
@@ -220,7 +239,8 @@ module _ (net : Network) (colours : ℕ → List ℕ) (n : ℕ) (w : ℕ → ℕ
     tt,
   )
 
-  pub dead_sound_above : (i : ℕ) (p : Component) (c d : ℕ) → HasPrim net i p → HasOutput p c → Repeat.Dead c d φ → AllSound net s φ (offering_rules colours c d i p)
+  pub dead_sound_above : (i : ℕ) (p : Component) (c d : ℕ) → HasPrim net i p → HasOutput p c → Repeat.Dead c d φ →
+      AllSound net s φ (offering_rules colours c d i p)
   dead_sound_above i p c d has source_output dead = tt
   dead_sound_above i p c d has queue_output dead =
       (inl (times_head d (packets_in (s 0 i)) (sym (now 0 i _ has).offer_out ∙ (dead 0).0), tt), tt)
@@ -247,10 +267,12 @@ module _ (net : Network) (colours : ℕ → List ℕ) (n : ℕ) (w : ℕ → ℕ
   )
 
   -- a dead channel of another colour
-  other_dead : (c d : ℕ) → c < net.channels → (e : ℕ) × (Repeat.Dead c e φ × (e ≢ d)) → SomeHolds net s φ (dead_one c (without d (colours c)))
+  other_dead : (c d : ℕ) → c < net.channels → (e : ℕ) × (Repeat.Dead c e φ × (e ≢ d)) →
+      SomeHolds net s φ (dead_one c (without d (colours c)))
   other_dead c d below x = some_one net s φ (λ e. Dead c e ∷ []) (without d (colours c)) x.0 (in_without d x.0 (colours c) (in_colours c below x.0 x.1.0) x.1.1) (x.1.0, tt)
 
-  via_sound : (input c b d : ℕ) (tc tb : List ℕ) → ((t : ℕ) → ForkEquation input c b tc tb (φ t)) → Repeat.Stays input φ → Repeat.Idle c d φ → (xs : List ℕ) → ((x : ℕ) → IsIn xs x → slice_index tc x ≡ d) →
+  via_sound : (input c b d : ℕ) (tc tb : List ℕ) → ((t : ℕ) → ForkEquation input c b tc tb (φ t)) →
+      Repeat.Stays input φ → Repeat.Idle c d φ → (xs : List ℕ) → ((x : ℕ) → IsIn xs x → slice_index tc x ≡ d) →
       AllSound net s φ (via_rules input b xs)
   via_sound input c b d tc tb e stays_i idle [] maps = tt
   via_sound input c b d tc tb e stays_i idle (x ∷ xs) maps = (
@@ -277,7 +299,8 @@ module _ (net : Network) (colours : ℕ → List ℕ) (n : ℕ) (w : ℕ → ℕ
   turned : (a b : ℕ) → nat_eq a b ≡ false → nat_eq b a ≡ false
   turned a b differ = ne_eqb b a (λ same. let found = eq-eqb a b (sym same) in cc)
 
-  pub idle_sound : (i : ℕ) (p : Component) (c d : ℕ) → HasPrim net i p → HasOutput p c → Repeat.Idle c d φ → AllSound net s φ (idle_rules colours c d i p)
+  pub idle_sound : (i : ℕ) (p : Component) (c d : ℕ) → HasPrim net i p → HasOutput p c → Repeat.Idle c d φ →
+      AllSound net s φ (idle_rules colours c d i p)
   idle_sound i p c d has source_output idle = tt
   idle_sound i p c d has (queue_output {input = input} {capacity = capacity} {initial = initial}) idle = (
     elim (idle_queue input c capacity (λ t. packets_in (s t i)) φ (queue_run i input c capacity initial has) n fair.is_long fair.frames_again

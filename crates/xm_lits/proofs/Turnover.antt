@@ -1,5 +1,7 @@
 -- The turnover of a queue, over cycles that repeat.
-use Rattle.std.proofs.Common.{◌≡◌, ◌≢◌, ℕ, zero, suc, ◌+◌, ◌-◌, ◌*◌, ◌%◌, ◌<◌, ◌≤◌, Bool, true, false, Option, Some, None, List, [], ◌∷◌, length, drop, slice_get, refl, sym, ◌∙◌, ap, inl, inr, is_some, arith, add-suc, add-zero, length-drop, length-append}
+use Rattle.std.proofs.Common.{◌≡◌, ◌≢◌, ℕ, zero, suc, ◌+◌, ◌-◌, ◌*◌, ◌%◌, ◌<◌, ◌≤◌, Bool, true, false, Option, Some}
+use Rattle.std.proofs.Common.{None, List, [], ◌∷◌, length, drop, slice_get, refl, sym, ◌∙◌, ap, inl, inr, is_some}
+use Rattle.std.proofs.Common.{arith, add-suc, add-zero, length-drop, length-append}
 use Rattle.std.specs.Prelude.{◌⊎◌}
 use Rattle.std.proofs.lemmas.Bool.{false_from_ne_true, ltb-false, lt-ltb, cases_Bool}
 use Rattle.std.proofs.lemmas.Option.{slice_get_within}
@@ -60,14 +62,16 @@ module _ (input out capacity : ℕ) (ps : ℕ → List ℕ) (φ : ℕ → Signal
       (now, (head.0, λ t. ((run.equation t).offer_out ∙ rw (unchanged stuck t) head.1, none_goes stuck t)))
 
 -- where a packet stands after a cycle in which nothing leaves
-pub place-joined : (ps : List ℕ) (arrival : Option ℕ) (j d : ℕ) → slice_get ps j ≡ Some d → slice_get (joined ps arrival) j ≡ Some d
+pub place-joined : (ps : List ℕ) (arrival : Option ℕ) (j d : ℕ) → slice_get ps j ≡ Some d →
+    slice_get (joined ps arrival) j ≡ Some d
 place-joined ps None j d h = h
 place-joined [] (Some a) j d h = cc
 place-joined (p ∷ ps) (Some a) zero d h = h
 place-joined (p ∷ ps) (Some a) (suc j) d h = place-joined ps (Some a) j d h
 
 -- and after one in which the head leaves
-pub place-left : (ps : List ℕ) (e : ℕ) (j d : ℕ) → slice_get ps (suc j) ≡ Some d → slice_get (left ps (Some e)) j ≡ Some d
+pub place-left : (ps : List ℕ) (e : ℕ) (j d : ℕ) → slice_get ps (suc j) ≡ Some d →
+    slice_get (left ps (Some e)) j ≡ Some d
 place-left [] e j d h = cc
 place-left (p ∷ ps) e j d h = h
 
@@ -77,7 +81,8 @@ arrived [] d = (0, refl)
 arrived (p ∷ ps) d = let rest = arrived ps d in (suc rest.0, rest.1)
 
 -- the first cycle from a given one on in which the test holds
-pub first_from : (p : ℕ → Bool) (t k : ℕ) → p (t + k) ≡ true → (m : ℕ) × (p (t + m) ≡ true) × ((i : ℕ) → i < m → p (t + i) ≡ false)
+pub first_from : (p : ℕ → Bool) (t k : ℕ) → p (t + k) ≡ true →
+    (m : ℕ) × (p (t + m) ≡ true) × ((i : ℕ) → i < m → p (t + i) ≡ false)
 first_from p t zero h = (0, h, λ i below. absurd (omega arith))
 first_from p t (suc k) h =
     elim (cases_Bool (p t)) [
@@ -106,7 +111,8 @@ module _ (input out capacity : ℕ) (ps : ℕ → List ℕ) (φ : ℕ → Signal
       ap (λ f. is_some (move f out)) (ap φ (let m : i + (t + i * n - i) ≡ t + i * n = omega arith in m) ∙ again_many φ n is_long again t i) ∙ h
 
   -- a packet comes one place nearer, once the head moves
-  nearer : (t m j d : ℕ) → goes (t + m) ≡ true → ((i : ℕ) → i < m → goes (t + i) ≡ false) → slice_get (ps t) (suc j) ≡ Some d →
+  nearer : (t m j d : ℕ) → goes (t + m) ≡ true → ((i : ℕ) → i < m → goes (t + i) ≡ false) →
+      slice_get (ps t) (suc j) ≡ Some d →
       (u : ℕ) × (slice_get (ps u) j ≡ Some d)
   nearer t zero j d moves before here =
       let e = is_some_true (move (φ t) out) (rw add-zero at moves) in
@@ -125,13 +131,15 @@ module _ (input out capacity : ℕ) (ps : ℕ → List ℕ) (φ : ℕ → Signal
       let next = nearer i first.0 j d first.1 first.2 here in
       not_inside d t idle moves j next.0 next.1
 
-  not_taken : (d t : ℕ) → Idle out d φ → goes t ≡ true → (i : ℕ) → (φ i).offer input ≡ Some d → (φ i).ready input ≡ false
+  not_taken : (d t : ℕ) → Idle out d φ → goes t ≡ true → (i : ℕ) → (φ i).offer input ≡ Some d →
+      (φ i).ready input ≡ false
   not_taken d t idle moves i is_offered = false_from_ne_true ((φ i).ready input) (λ takes.
       let arrives : move (φ i) input ≡ Some d = only_if-true ((φ i).ready input) ((φ i).offer input) takes ∙ is_offered in
       let there = arrived (left (ps i) (move (φ i) out)) d in
       not_inside d t idle moves there.0 (suc i) (rw (run.step i, arrives) there.1))
 
-  waits : (d t : ℕ) → Idle out d φ → goes t ≡ true → Stays input φ → (i : ℕ) → (φ i).offer input ≡ Some d → (k : ℕ) → (φ (i + k)).offer input ≡ Some d
+  waits : (d t : ℕ) → Idle out d φ → goes t ≡ true → Stays input φ → (i : ℕ) → (φ i).offer input ≡ Some d → (k : ℕ) →
+      (φ (i + k)).offer input ≡ Some d
   waits d t idle moves stays i is_offered zero = rw add-zero is_offered
   waits d t idle moves stays i is_offered (suc k) =
       let before = waits d t idle moves stays i is_offered k in
@@ -204,7 +212,8 @@ module _ (input out capacity : ℕ) (ps : ℕ → List ℕ) (φ : ℕ → Signal
           omega arith
 
 -- a colour that a queue never gives is neither in it nor offered to it, or its output is dead with another
-pub idle_queue : (input out capacity : ℕ) (ps : ℕ → List ℕ) (φ : ℕ → Signals) → QueueRun input out capacity ps φ → (n : ℕ) → 0 < n →
+pub idle_queue : (input out capacity : ℕ) (ps : ℕ → List ℕ) (φ : ℕ → Signals) → QueueRun input out capacity ps φ →
+    (n : ℕ) → 0 < n →
     ((t : ℕ) → φ (t + n) ≡ φ t) → ((t : ℕ) → ps (t + n) ≡ ps t) → (d : ℕ) → Stays input φ → Idle out d φ →
     (((j : ℕ) → slice_get (ps 0) j ≢ Some d) × Idle input d φ) ⊎ ((e : ℕ) × (Dead out e φ × (e ≢ d)))
 idle_queue input out capacity ps φ run n is_long again ps_again d stays idle =
@@ -218,7 +227,8 @@ idle_queue input out capacity ps φ run n is_long again ps_again d stays idle =
           ap (λ f. is_some (move f out)) (sym (at_remainder φ n is_long again t)) ∙ none (t % n) (omega arith) in
           by_head (ps 0) refl still
     ] where
-      by_head : (first : List ℕ) → ps 0 ≡ first → ((t : ℕ) → goes input out capacity ps φ run n is_long again t ≡ false) →
+      by_head : (first : List ℕ) → ps 0 ≡ first →
+          ((t : ℕ) → goes input out capacity ps φ run n is_long again t ≡ false) →
           (((j : ℕ) → slice_get (ps 0) j ≢ Some d) × Idle input d φ) ⊎ ((e : ℕ) × (Dead out e φ × (e ≢ d)))
       by_head [] is still = inl (λ j here. let none = rw is at here in cc, nothing_offered input out capacity ps φ run n is_long again still ps_again is d)
       by_head (e ∷ rest) is still =

@@ -1,11 +1,12 @@
 -- Literals that never hold together.
-use Rattle.std.specs.Prelude.{◌≡◌, ℕ, List, [], ◌∷◌, Option, Some, None, Bool, true, false, ◌&&◌, not, nat_eq, nat_lt, slice_get}
+use Rattle.std.specs.Prelude.{◌≡◌, ℕ, List, [], ◌∷◌, Option, Some, Bool, true, false, ◌&&◌, not, nat_eq, nat_lt}
+use Rattle.std.specs.Prelude.{slice_get}
 use Rattle.xm_colours.specs.Family.{colours_at}
 use Rattle.xm_design.specs.Designed.{Designed}
 use Rattle.xm_lits.specs.Inference.{has_colour, idle_all}
 use Rattle.xm_lits.specs.declared.literal.Lit.{Lit}
-use Rattle.xm_lits.specs.declared.literal.Lit.TheVariants.{Stuck, Dead, Idle, Full, Has, Lacks}
-use Rattle.xm_model.specs.Component.{Component, Fork, Function, Join, Merge, Queue, Sink, Source, Switch}
+use Rattle.xm_lits.specs.declared.literal.Lit.TheVariants.{Dead, Idle, Has}
+use Rattle.xm_model.specs.Component.{Component, Queue, Source}
 use Rattle.xm_model.specs.Net.{Network, initiators}
 use Rattle.xm_model.specs.declared.primitive.SourceMode.{SourceMode}
 use Rattle.xm_model.specs.declared.primitive.SourceMode.TheVariants as source_mode
@@ -19,24 +20,14 @@ are_opposed _ _ = false
 
 -- it is a queue whose output lacks the colour
 abbrev pub lacks_colour : (ℕ → List ℕ) → ℕ → Option Component → Bool
-lacks_colour colours d None = false
-lacks_colour colours d (Some (Source out cs mode)) = false
-lacks_colour colours d (Some (Sink input mode)) = false
-lacks_colour colours d (Some (Queue input out capacity initial)) = not (has_colour (colours out) d)
-lacks_colour colours d (Some (Function input out table)) = false
-lacks_colour colours d (Some (Fork input a b table_a table_b)) = false
-lacks_colour colours d (Some (Join a b out pass)) = false
-lacks_colour colours d (Some (Switch input a b to_a)) = false
-lacks_colour colours d (Some (Merge a b out)) = false
+lacks_colour colours d (Some (Queue _ out _ _)) = not (has_colour (colours out) d)
+lacks_colour colours d _ = false
 
 -- a channel is dead with a colour outside its set, or a queue has a packet of one outside that of its output
 abbrev pub is_outside : Designed → Lit → Bool
-is_outside it (Stuck c) = false
 is_outside it (Dead c d) = nat_lt c it.net.channels && not (has_colour (colours_at it.colours c) d)
-is_outside it (Idle c d) = false
-is_outside it (Full q) = false
 is_outside it (Has q d) = lacks_colour (colours_at it.colours) d (slice_get it.net.prims q)
-is_outside it (Lacks q d) = false
+is_outside it _ = false
 
 -- the mode of a source that offers again and again
 abbrev pub offers_again : SourceMode → Bool
@@ -46,15 +37,8 @@ offers_again source_mode.Free = false
 offers_again source_mode.Fair = true
 
 abbrev pub is_offering : Option Component → Bool
-is_offering None = false
-is_offering (Some (Source out cs mode)) = offers_again mode
-is_offering (Some (Sink input mode)) = false
-is_offering (Some (Queue input out capacity initial)) = false
-is_offering (Some (Function input out table)) = false
-is_offering (Some (Fork input a b table_a table_b)) = false
-is_offering (Some (Join a b out pass)) = false
-is_offering (Some (Switch input a b to_a)) = false
-is_offering (Some (Merge a b out)) = false
+is_offering (Some (Source _ _ mode)) = offers_again mode
+is_offering _ = false
 
 -- the one primitive that is listed is an eager or fair source
 abbrev pub one_offers : Network → List ℕ → Bool

@@ -1,10 +1,12 @@
 -- What follows from a literal: its rules, each with alternatives of which one holds wholly.
-use Rattle.std.specs.Prelude.{ℕ, List, [], ◌∷◌, ◌++◌, map, Option, Some, None, slice_get, slice_index, cond, Bool, nat_eq, nat_lt}
+use Rattle.std.specs.Prelude.{ℕ, List, [], ◌∷◌, ◌++◌, map, Option, Some, None, slice_get, slice_index, cond, Bool}
+use Rattle.std.specs.Prelude.{nat_eq, nat_lt}
 use Rattle.xm_colours.specs.Family.{colours_at}
 use Rattle.xm_design.specs.Designed.{Designed}
 use Rattle.xm_lits.specs.declared.inference.Rule.{Rule}
 use Rattle.xm_lits.specs.declared.inference.RuleName.{RuleName}
-use Rattle.xm_lits.specs.declared.inference.RuleName.TheVariants.{P0, S1, S2, S3, S4, S5, S6, P1, P2, P3, P4, O1, O2, O3, O4, O5, O6, I2, I3, I4, I5, I6, I7}
+use Rattle.xm_lits.specs.declared.inference.RuleName.TheVariants.{P0, S1, S2, S3, S4, S5, S6, P1, P2, P3, P4}
+use Rattle.xm_lits.specs.declared.inference.RuleName.TheVariants.{O1, O2, O3, O4, O5, O6, I2, I3, I4, I5, I6, I7}
 use Rattle.xm_lits.specs.declared.literal.Lit.{Lit}
 use Rattle.xm_lits.specs.declared.literal.Lit.TheVariants.{Stuck, Dead, Idle, Full, Has, Lacks}
 use Rattle.xm_model.specs.Component.{Component, Fork, Function, Join, Merge, Queue, Sink, Source, Switch}
@@ -29,9 +31,16 @@ inference_of r = record { name = r.name; via = r.via; alternatives = alternative
 abbrev pub rule : RuleName → List (List Lit) → Inference
 rule name alternatives = record { name = name; via = None; alternatives = alternatives }
 
+abbrev pub one_rule : RuleName → List (List Lit) → List Inference
+one_rule name alternatives = rule name alternatives ∷ []
+
+-- the channel is idle of each of these colours
+abbrev pub idle_of : ℕ → List ℕ → List Lit
+idle_of c ds = map (λ d. Idle c d) ds
+
 -- the channel is idle of each of its colours
 abbrev pub idle_all : (ℕ → List ℕ) → ℕ → List Lit
-idle_all colours c = map (λ d. Idle c d) (colours c)
+idle_all colours c = idle_of c (colours c)
 
 -- one alternative for each colour
 abbrev pub one_of : (ℕ → List Lit) → List ℕ → List (List Lit)
@@ -64,54 +73,97 @@ has_colour ds d = nat_lt 0 (times d ds)
 abbrev pub idle_where : ℕ → ℕ → List ℕ → List Lit
 idle_where c d ds = cond (has_colour ds d) (Idle c d ∷ []) []
 
--- a rule for each of these colours of a fork's input; the other output is b
+-- a queue lacks the colour, and its input is idle of it, where the colour may come there
+abbrev pub lacking : (ℕ → List ℕ) → ℕ → ℕ → ℕ → List Lit
+lacking colours d q input = Lacks q d ∷ idle_where input d (colours input)
+
+-- the channel is dead with one of its colours, but not this one
+abbrev pub dead_other : (ℕ → List ℕ) → ℕ → ℕ → List (List Lit)
+dead_other colours c d = dead_one c (without d (colours c))
+
+-- of two channels the one that is not c
+abbrev pub other_than : ℕ → ℕ → ℕ → ℕ
+other_than c a b = cond (nat_eq c a) b a
+
+-- the output of a switch to which this colour goes
+abbrev pub way_of : List Bool → ℕ → ℕ → ℕ → ℕ
+way_of to_a d a b = cond (takes_a to_a d) a b
+
+-- the map of the fork's output c
+abbrev pub map_to : ℕ → ℕ → List ℕ → List ℕ → List ℕ
+map_to c a map_a map_b = cond (nat_eq c a) map_a map_b
+
+-- what may pass a join on this channel, where channel c offers d
+abbrev pub passed : (ℕ → List ℕ) → ℕ → ℕ → ℕ → List ℕ
+passed colours c d from = cond (nat_eq c from) (d ∷ []) (colours from)
+
+-- the input of a fork is idle of the colour, or dead with it where the other output is stuck
+abbrev pub via_rule : ℕ → ℕ → ℕ → Inference
+via_rule input other x =
+    record { name = I4; via = Some x; alternatives = (Idle input x ∷ []) ∷ (Dead input x ∷ Stuck other ∷ []) ∷ [] }
+
+-- a rule for each of these colours
 abbrev pub via_rules : ℕ → ℕ → List ℕ → List Inference
-via_rules input b xs = map (λ x. record { name = I4; via = Some x; alternatives = (Idle input x ∷ []) ∷ (Dead input x ∷ Stuck b ∷ []) ∷ [] }) xs
+via_rules input other xs = map (via_rule input other) xs
 
--- the rules of stuck channel c, by the primitive that takes from it
+-- the channel is idle of all its colours, or dead with one
+abbrev pub idle_or_dead : (ℕ → List ℕ) → ℕ → List (List Lit)
+idle_or_dead colours c = idle_all colours c ∷ dead_one c (colours c)
+
+-- the rules of stuck channel c, by primitive number p, which takes from it
 abbrev pub stuck_rules : (ℕ → List ℕ) → ℕ → ℕ → Component → List Inference
-stuck_rules colours c i (Source out cs mode) = []
-stuck_rules colours c i (Sink input mode) = rule S1 [] ∷ []
-stuck_rules colours c i (Queue input out capacity initial) = rule S2 (one_of (λ e. Full i ∷ Dead out e ∷ []) (colours out)) ∷ []
-stuck_rules colours c i (Function input out table) = rule S3 ((Stuck out ∷ []) ∷ []) ∷ []
-stuck_rules colours c i (Fork input a b ta tb) = rule S4 ((Stuck a ∷ []) ∷ (Stuck b ∷ []) ∷ []) ∷ []
-stuck_rules colours c i (Join a b out pass) = rule S5 (idle_all colours (cond (nat_eq c a) b a) ∷ (Stuck out ∷ []) ∷ []) ∷ []
-stuck_rules colours c i (Switch input a b to_a) = rule S6 (idle_all colours c ∷ dead_one c (colours c)) ∷ []
-stuck_rules colours c i (Merge a b out) = rule S6 (idle_all colours c ∷ dead_one c (colours c)) ∷ []
+stuck_rules colours c p (Source _ _ _) = []
+stuck_rules colours c p (Sink _ _) = one_rule S1 []
+stuck_rules colours c p (Queue _ out _ _) = one_rule S2 (one_of (λ e. Full p ∷ Dead out e ∷ []) (colours out))
+stuck_rules colours c p (Function _ out _) = one_rule S3 ((Stuck out ∷ []) ∷ [])
+stuck_rules colours c p (Fork _ a b _ _) = one_rule S4 ((Stuck a ∷ []) ∷ (Stuck b ∷ []) ∷ [])
+stuck_rules colours c p (Join a b out _) = one_rule S5 (idle_all colours (other_than c a b) ∷ (Stuck out ∷ []) ∷ [])
+stuck_rules colours c p (Switch _ _ _ _) = one_rule S6 (idle_or_dead colours c)
+stuck_rules colours c p (Merge _ _ _) = one_rule S6 (idle_or_dead colours c)
 
--- the rules of a channel that is dead with d, by the primitive that takes from it
+-- the rules of channel c, which is dead with d, by the primitive that takes from it
 abbrev pub passing_rules : (ℕ → List ℕ) → ℕ → ℕ → ℕ → Component → List Inference
-passing_rules colours c d i (Source out cs mode) = []
-passing_rules colours c d i (Sink input mode) = []
-passing_rules colours c d i (Queue input out capacity initial) = []
-passing_rules colours c d i (Function input out table) = rule P1 ((Dead out (slice_index table d) ∷ []) ∷ []) ∷ []
-passing_rules colours c d i (Fork input a b ta tb) = []
-passing_rules colours c d i (Join a b out pass) =
-    rule P4 (idle_all colours (cond (nat_eq c a) b a) ∷ dead_one out (cond (nat_eq c (at_side pass a b)) (d ∷ []) (colours (at_side pass a b)))) ∷ []
-passing_rules colours c d i (Switch input a b to_a) = rule P2 ((Dead (cond (takes_a to_a d) a b) d ∷ []) ∷ []) ∷ []
-passing_rules colours c d i (Merge a b out) = rule P3 (dead_one out (with_colour d (colours (cond (nat_eq c a) b a)))) ∷ []
+passing_rules colours c d p (Function _ out table) = one_rule P1 ((Dead out (slice_index table d) ∷ []) ∷ [])
+passing_rules colours c d p (Join a b out pass) =
+    one_rule P4 (idle_all colours (other_than c a b) ∷ dead_one out (passed colours c d (at_side pass a b)))
+passing_rules colours c d p (Switch _ a b to_a) = one_rule P2 ((Dead (way_of to_a d a b) d ∷ []) ∷ [])
+passing_rules colours c d p (Merge a b out) = one_rule P3 (dead_one out (with_colour d (colours (other_than c a b))))
+passing_rules colours c d p _ = []
 
--- and by the primitive that offers on it
+-- both inputs of a join are dead, the one that passes with d
+abbrev pub dead_both : (ℕ → List ℕ) → ℕ → ℕ → ℕ → List (List Lit)
+dead_both colours d pass other = one_of (λ e. Dead pass d ∷ Dead other e ∷ []) (colours other)
+
+-- and by primitive number p, which offers on it
 abbrev pub offering_rules : (ℕ → List ℕ) → ℕ → ℕ → ℕ → Component → List Inference
-offering_rules colours c d i (Source out cs mode) = []
-offering_rules colours c d i (Sink input mode) = []
-offering_rules colours c d i (Queue input out capacity initial) = rule O1 ((Has i d ∷ []) ∷ []) ∷ []
-offering_rules colours c d i (Function input out table) = rule O2 (dead_one input (taken_to table d (colours input))) ∷ []
-offering_rules colours c d i (Fork input a b ta tb) = rule O3 (dead_one input (taken_to (cond (nat_eq c a) ta tb) d (colours input))) ∷ []
-offering_rules colours c d i (Join a b out pass) = rule O4 (one_of (λ e. Dead (at_side pass a b) d ∷ Dead (at_side pass b a) e ∷ []) (colours (at_side pass b a))) ∷ []
-offering_rules colours c d i (Switch input a b to_a) = rule O5 ((Dead input d ∷ []) ∷ []) ∷ []
-offering_rules colours c d i (Merge a b out) = rule O6 ((Dead a d ∷ []) ∷ (Dead b d ∷ []) ∷ []) ∷ []
+offering_rules colours c d p (Source _ _ _) = []
+offering_rules colours c d p (Sink _ _) = []
+offering_rules colours c d p (Queue _ _ _ _) = one_rule O1 ((Has p d ∷ []) ∷ [])
+offering_rules colours c d p (Function input _ table) = one_rule O2 (dead_one input (taken_to table d (colours input)))
+offering_rules colours c d p (Fork input a _ map_a map_b) =
+    one_rule O3 (dead_one input (taken_to (map_to c a map_a map_b) d (colours input)))
+offering_rules colours c d p (Join a b _ pass) =
+    one_rule O4 (dead_both colours d (at_side pass a b) (at_side pass b a))
+offering_rules colours c d p (Switch input _ _ _) = one_rule O5 ((Dead input d ∷ []) ∷ [])
+offering_rules colours c d p (Merge a b _) = one_rule O6 ((Dead a d ∷ []) ∷ (Dead b d ∷ []) ∷ [])
 
--- the rules of a channel that is idle of d, by the primitive that offers on it
+-- the input of a join that passes is idle of d, or dead with it where the other is idle
+abbrev pub idle_join : (ℕ → List ℕ) → ℕ → ℕ → ℕ → List (List Lit)
+idle_join colours d pass other = (Idle pass d ∷ []) ∷ (Dead pass d ∷ idle_all colours other) ∷ []
+
+-- the rules of channel c, which is idle of d, by primitive number p, which offers on it
 abbrev pub idle_rules : (ℕ → List ℕ) → ℕ → ℕ → ℕ → Component → List Inference
-idle_rules colours c d i (Source out cs mode) = []
-idle_rules colours c d i (Sink input mode) = []
-idle_rules colours c d i (Queue input out capacity initial) = rule I2 ((Lacks i d ∷ idle_where input d (colours input)) ∷ dead_one c (without d (colours c))) ∷ []
-idle_rules colours c d i (Function input out table) = rule I3 (map (λ x. Idle input x) (taken_to table d (colours input)) ∷ []) ∷ []
-idle_rules colours c d i (Fork input a b ta tb) = via_rules input (cond (nat_eq c a) b a) (taken_to (cond (nat_eq c a) ta tb) d (colours input))
-idle_rules colours c d i (Join a b out pass) = rule I5 ((Idle (at_side pass a b) d ∷ []) ∷ (Dead (at_side pass a b) d ∷ idle_all colours (at_side pass b a)) ∷ []) ∷ []
-idle_rules colours c d i (Switch input a b to_a) = cond (nat_eq c (cond (takes_a to_a d) a b)) (rule I6 ((Idle input d ∷ []) ∷ []) ∷ []) []
-idle_rules colours c d i (Merge a b out) = rule I7 ((Idle a d ∷ Idle b d ∷ []) ∷ dead_one c (without d (colours c))) ∷ []
+idle_rules colours c d p (Source _ _ _) = []
+idle_rules colours c d p (Sink _ _) = []
+idle_rules colours c d p (Queue input _ _ _) = one_rule I2 (lacking colours d p input ∷ dead_other colours c d)
+idle_rules colours c d p (Function input _ table) =
+    one_rule I3 (idle_of input (taken_to table d (colours input)) ∷ [])
+idle_rules colours c d p (Fork input a b map_a map_b) =
+    via_rules input (other_than c a b) (taken_to (map_to c a map_a map_b) d (colours input))
+idle_rules colours c d p (Join a b _ pass) = one_rule I5 (idle_join colours d (at_side pass a b) (at_side pass b a))
+idle_rules colours c d p (Switch input a b to_a) =
+    cond (nat_eq c (way_of to_a d a b)) (one_rule I6 ((Idle input d ∷ []) ∷ [])) []
+idle_rules colours c d p (Merge a b _) = one_rule I7 ((Idle a d ∷ Idle b d ∷ []) ∷ dead_other colours c d)
 
 -- the rules by the primitive with the one number that is listed
 abbrev pub by_prim : (ℕ → Component → List Inference) → ℕ → Option Component → List Inference
@@ -128,7 +180,9 @@ by_one f net (p ∷ q ∷ ps) = []
 abbrev pub rules_at : Network → (ℕ → List ℕ) → Lit → List Inference
 rules_at net colours (Stuck c) = by_one (stuck_rules colours c) net (targets net.prims c)
 rules_at net colours (Dead c d) =
-    rule P0 ((Stuck c ∷ []) ∷ []) ∷ by_one (passing_rules colours c d) net (targets net.prims c) ++ by_one (offering_rules colours c d) net (initiators net.prims c)
+    rule P0 ((Stuck c ∷ []) ∷ [])
+    ∷ by_one (passing_rules colours c d) net (targets net.prims c)
+    ++ by_one (offering_rules colours c d) net (initiators net.prims c)
 rules_at net colours (Idle c d) = by_one (idle_rules colours c d) net (initiators net.prims c)
 rules_at net colours (Full q) = []
 rules_at net colours (Has q d) = []

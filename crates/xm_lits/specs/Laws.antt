@@ -8,7 +8,6 @@ use Rattle.xm_lits.specs.Repeating.{AllOf, Holds, IsFair, IsJammed, IsRepeating,
 use Rattle.xm_lits.specs.declared.literal.Lit.{Lit}
 use Rattle.xm_lits.specs.declared.literal.Lit.TheVariants.{Dead}
 use Rattle.xm_model.specs.Membership.{IsIn}
-use Rattle.xm_model.specs.Membership.{IsIn}
 use Rattle.xm_persist.specs.Rights.{AllGranted}
 
 -- what all laws ask of the net and the run
@@ -22,7 +21,8 @@ pub record IsFairRun (it : Designed) (r : Repetition) : Type 0 where
 abbrev pub RulesHold : Type 0
 RulesHold =
     (it : Designed) (r : Repetition) → IsFairRun it r →
-    (l : Lit) (rule : Inference) → IsIn (rules_of it l) rule → Holds it.net r l → SomeOf (Holds it.net r) rule.alternatives
+    (l : Lit) (rule : Inference) → IsIn (rules_of it l) rule → Holds it.net r l →
+    SomeOf (Holds it.net r) rule.alternatives
 
 -- no clash holds wholly
 abbrev pub ClashesHold : Type 0
@@ -34,4 +34,5 @@ ClashesHold =
 abbrev pub JamsAreDead : Type 0
 JamsAreDead =
     (it : Designed) (r : Repetition) → IsFairRun it r →
-    (c : ℕ) → c < it.net.channels → IsJammed r c → (d : ℕ) × (IsIn (colours_at it.colours c) d × Holds it.net r (Dead c d))
+    (c : ℕ) → c < it.net.channels → IsJammed r c →
+    (d : ℕ) × (IsIn (colours_at it.colours c) d × Holds it.net r (Dead c d))

@@ -1,5 +1,6 @@
 -- Sums of rows within 128 bits: products and sums are taken row by row, in column order, the constant last.
-use Rattle.std.specs.Prelude.{ℕ, zero, suc, ◌^◌, List, [], ◌∷◌, Option, Some, None, Bool, true, false, ◌&&◌, cond, nat_lt, ℤ, pos, negsuc, ◌+ℤ◌, ◌*ℤ◌, unsigned_abs, slice_set, slice_index_or, replicate}
+use Rattle.std.specs.Prelude.{ℕ, suc, ◌^◌, List, [], ◌∷◌, Option, Some, None, Bool, true, false, ◌&&◌, cond}
+use Rattle.std.specs.Prelude.{nat_lt, ℤ, pos, negsuc, ◌+ℤ◌, ◌*ℤ◌, unsigned_abs, slice_set, slice_index_or, replicate}
 use Rattle.std.specs.Ordering.{int_eq}
 use Rattle.xm_rows.specs.Row.{SparseRow}
 use Rattle.xm_rows.specs.declared.row.Entry.{Entry}
@@ -17,9 +18,10 @@ no_sums n = record { columns = replicate n (pos 0); constant = pos 0 }
 abbrev pub fits128 : ℤ → Bool
 fits128 z = nat_lt (unsigned_abs z) (2 ^ 127)
 
--- the sum and a product; `None` where the product or the new sum leaves 128 bits
+-- the sum and a product; none where the product or the new sum leaves 128 bits
 abbrev pub plus_product : ℤ → ℤ → ℤ → Option ℤ
-plus_product sum factor value = cond (fits128 (factor *ℤ value) && fits128 (sum +ℤ (factor *ℤ value))) (Some (sum +ℤ (factor *ℤ value))) None
+plus_product sum factor value =
+    cond (fits128 (factor *ℤ value) && fits128 (sum +ℤ (factor *ℤ value))) (Some (sum +ℤ (factor *ℤ value))) None
 
 -- a number for column k
 abbrev pub put : List ℤ → ℕ → Option ℤ → Option (List ℤ)
@@ -34,13 +36,13 @@ add_entries factor (e ∷ es) (Some columns) =
     add_entries factor es (put columns e.column (plus_product (slice_index_or columns e.column (pos 0)) factor e.value))
 
 abbrev pub with_constant : Option (List ℤ) → Option ℤ → Option Sums
-with_constant None constant = None
-with_constant (Some columns) None = None
 with_constant (Some columns) (Some constant) = Some (record { columns = columns; constant = constant })
+with_constant _ _ = None
 
 -- a row, taken so often
 abbrev pub add_row : ℤ → SparseRow → Sums → Option Sums
-add_row factor row sums = with_constant (add_entries factor row.entries (Some sums.columns)) (plus_product sums.constant factor row.constant)
+add_row factor row sums =
+    with_constant (add_entries factor row.entries (Some sums.columns)) (plus_product sums.constant factor row.constant)
 
 -- at least 0, and at least 1
 abbrev pub is_natural : ℤ → Bool
@@ -48,9 +50,8 @@ is_natural (pos n) = true
 is_natural (negsuc n) = false
 
 abbrev pub is_positive : ℤ → Bool
-is_positive (pos zero) = false
 is_positive (pos (suc n)) = true
-is_positive (negsuc n) = false
+is_positive _ = false
 
 -- each is 0
 abbrev pub all_zero : List ℤ → Bool

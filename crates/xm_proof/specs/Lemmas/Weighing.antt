@@ -1,5 +1,7 @@
 -- Lemmas: what sums of rows give at a point, and that bounds never add up to 0 at least 1.
-use Rattle.std.proofs.Common.{◌≡◌, ℕ, zero, suc, ◌+◌, ◌≤◌, Option, Some, None, List, [], ◌∷◌, length, slice_get, true, ◌&&◌, refl, sym, ◌∙◌, ap, subst, arith, pos, ℤ, ◌+ℤ◌, ◌*ℤ◌, ◌≤ℤ◌, int_eq, length-set, add-zero}
+use Rattle.std.proofs.Common.{◌≡◌, ℕ, zero, suc, ◌+◌, ◌≤◌, Option, Some, None, List, [], ◌∷◌, length, true}
+use Rattle.std.proofs.Common.{◌&&◌, refl, sym, ◌∙◌, ap, subst, arith, pos, ℤ, ◌+ℤ◌, ◌*ℤ◌, ◌≤ℤ◌, int_eq, length-set}
+use Rattle.std.proofs.Common.{add-zero}
 use Rattle.std.specs.Prelude.{slice_set, slice_index_or, replicate}
 use Rattle.std.proofs.lemmas.Bool.{and_parts}
 use Rattle.std.proofs.lemmas.Bool.Decides.{Decides-int_eq}
@@ -10,8 +12,9 @@ use Rattle.std.proofs.Math.IntN.{zero-*ℤ, *ℤ-zero}
 use Rattle.xm_design.specs.Designed.{Designed}
 use Rattle.xm_lits.specs.declared.literal.Lit.{Lit}
 use Rattle.xm_flow.specs.ValidLemma.{Lemma}
-use Rattle.xm_proof.specs.Lemmas.Integers.{assoc, distrib, distrib_right}
-use Rattle.xm_proof.specs.Sums.{Sums, add_entries, add_row, all_zero, fits128, no_sums, plus_product, put, with_constant}
+use Rattle.xm_rows.specs.Lemmas.Integers.{assoc, distrib, distrib_right}
+use Rattle.xm_proof.specs.Sums.{Sums, add_entries, add_row, all_zero, fits128, no_sums, plus_product, put}
+use Rattle.xm_proof.specs.Sums.{with_constant}
 use Rattle.xm_proof.specs.Tests.{queue_columns}
 use Rattle.xm_proof.specs.Valid.{AddUp, Closes, has_sign, item_row, multiplier}
 use Rattle.xm_proof.specs.declared.proof.Item.{Item}
@@ -51,7 +54,8 @@ value-all_zero (z ∷ zs) k x h =
     omega (arith, ints)
 
 pub product_is : (sum factor value s : ℤ) → plus_product sum factor value ≡ Some s → s ≡ sum +ℤ (factor *ℤ value)
-product_is sum factor value s h = sym (cond_some (fits128 (factor *ℤ value) && fits128 (sum +ℤ (factor *ℤ value))) (sum +ℤ (factor *ℤ value)) s h).1
+product_is sum factor value s h =
+    let more = factor *ℤ value in sym (cond_some (fits128 more && fits128 (sum +ℤ more)) (sum +ℤ more) s h).1
 
 abbrev sums_of : List ℤ → ℤ → Sums
 sums_of zs z = record { columns = zs; constant = z }
@@ -61,11 +65,16 @@ module _ (x : ℕ → ℤ) where
   abbrev pub EndsAt : ℕ → Type 0
   EndsAt n = (k : ℕ) → n ≤ k → x k ≡ pos 0
 
+  -- what the entries, taken so often, make of the columns
+  abbrev Adds : ℤ → List Entry → List ℤ → List ℤ → Type 0
+  Adds factor es zs ws =
+      (length ws ≡ length zs) × (value_from ws 0 x ≡ value_from zs 0 x +ℤ (factor *ℤ left_side es x))
+
   -- one more entry, where the further ones are known
   one_more : (factor : ℤ) (e : Entry) (es : List Entry) (zs ws : List ℤ) → EndsAt (length zs) →
-      ((ys : List ℤ) → EndsAt (length ys) → add_entries factor es (Some ys) ≡ Some ws → (length ws ≡ length ys) × (value_from ws 0 x ≡ value_from ys 0 x +ℤ (factor *ℤ left_side es x))) →
-      (o : Option ℤ) → plus_product (slice_index_or zs e.column (pos 0)) factor e.value ≡ o → add_entries factor es (put zs e.column o) ≡ Some ws →
-      (length ws ≡ length zs) × (value_from ws 0 x ≡ value_from zs 0 x +ℤ (factor *ℤ left_side (e ∷ es) x))
+      ((ys : List ℤ) → EndsAt (length ys) → add_entries factor es (Some ys) ≡ Some ws → Adds factor es ys ws) →
+      (o : Option ℤ) → plus_product (slice_index_or zs e.column (pos 0)) factor e.value ≡ o →
+      add_entries factor es (put zs e.column o) ≡ Some ws → Adds factor (e ∷ es) zs ws
   one_more factor e [] zs ws ends again None is h = cc
   one_more factor e (f ∷ es) zs ws ends again None is h = cc
   one_more factor e es zs ws ends again (Some s) is h =
@@ -74,38 +83,55 @@ module _ (x : ℕ → ℤ) where
       let rest = again (slice_set zs e.column s) (subst EndsAt (sym size) ends) h in
       let zero : 0 + e.column ≡ e.column = omega arith in
       let moved = value-set zs 0 e.column (factor *ℤ e.value) x (λ past. ap x zero ∙ ends e.column past) in
-      let put_there : value_from (slice_set zs e.column s) 0 x ≡ value_from (slice_set zs e.column (slice_index_or zs e.column (pos 0) +ℤ (factor *ℤ e.value))) 0 x =
+      let put_there : value_from (slice_set zs e.column s) 0 x
+      ≡ value_from (slice_set zs e.column (slice_index_or zs e.column (pos 0) +ℤ (factor *ℤ e.value))) 0 x =
       ap (λ z. value_from (slice_set zs e.column z) 0 x) sum in
-      let at : (factor *ℤ e.value) *ℤ x (0 + e.column) ≡ factor *ℤ (e.value *ℤ x e.column) = ap (λ y. (factor *ℤ e.value) *ℤ y) (ap x zero) ∙ sym (assoc factor e.value (x e.column)) in
+      let at : (factor *ℤ e.value) *ℤ x (0 + e.column) ≡ factor *ℤ (e.value *ℤ x e.column) =
+      ap (λ y. (factor *ℤ e.value) *ℤ y) (ap x zero) ∙ sym (assoc factor e.value (x e.column)) in
       let parted = distrib factor (e.value *ℤ x e.column) (left_side es x) in
-      let value : value_from ws 0 x ≡ value_from zs 0 x +ℤ (factor *ℤ left_side (e ∷ es) x) = omega (arith, ints, rest.1) in
+      let value : value_from ws 0 x ≡ value_from zs 0 x +ℤ (factor *ℤ left_side (e ∷ es) x) =
+      omega (arith, ints, rest.1) in
       (rest.0 ∙ size, value)
 
-  entries_value : (factor : ℤ) (es : List Entry) (zs ws : List ℤ) → EndsAt (length zs) → add_entries factor es (Some zs) ≡ Some ws →
-      (length ws ≡ length zs) × (value_from ws 0 x ≡ value_from zs 0 x +ℤ (factor *ℤ left_side es x))
+  entries_value : (factor : ℤ) (es : List Entry) (zs ws : List ℤ) → EndsAt (length zs) →
+      add_entries factor es (Some zs) ≡ Some ws → Adds factor es zs ws
   entries_value factor [] zs ws ends h =
       let same : zs ≡ ws = cc in
       let none = *ℤ-zero factor in
-      (ap length (sym same), ap (λ l. value_from l 0 x) (sym same) ∙ (let e : value_from zs 0 x ≡ value_from zs 0 x +ℤ (factor *ℤ pos 0) = omega (arith, ints) in e))
+      let nothing : value_from zs 0 x ≡ value_from zs 0 x +ℤ (factor *ℤ pos 0) = omega (arith, ints) in
+      (ap length (sym same), ap (λ l. value_from l 0 x) (sym same) ∙ nothing)
   entries_value factor (e ∷ es) zs ws ends h =
-      one_more factor e es zs ws ends (λ ys ends_ys same. entries_value factor es ys ws ends_ys same) (plus_product (slice_index_or zs e.column (pos 0)) factor e.value) refl h
+      one_more factor e es zs ws ends (λ ys ends_ys same. entries_value factor es ys ws ends_ys same)
+      (plus_product (slice_index_or zs e.column (pos 0)) factor e.value) refl h
 
   -- a row, taken so often
-  row_parts : (o : Option (List ℤ)) (c : Option ℤ) (t : Sums) → with_constant o c ≡ Some t → (o ≡ Some t.columns) × (c ≡ Some t.constant)
+  row_parts : (o : Option (List ℤ)) (c : Option ℤ) (t : Sums) → with_constant o c ≡ Some t →
+      (o ≡ Some t.columns) × (c ≡ Some t.constant)
   row_parts None c t h = cc
   row_parts (Some zs) None t h = cc
-  row_parts (Some zs) (Some z) t h = let same : sums_of zs z ≡ t = cc in (ap (λ (s : Sums). Some s.columns) same, ap (λ (s : Sums). Some s.constant) same)
+  row_parts (Some zs) (Some z) t h =
+      let same : sums_of zs z ≡ t = cc in
+      (ap (λ (s : Sums). Some s.columns) same, ap (λ (s : Sums). Some s.constant) same)
 
-  pub row_value : (factor : ℤ) (row : SparseRow) (s t : Sums) → EndsAt (length s.columns) → add_row factor row s ≡ Some t →
-      (length t.columns ≡ length s.columns) × (value_from t.columns 0 x ≡ value_from s.columns 0 x +ℤ (factor *ℤ left_side row.entries x)) × (t.constant ≡ s.constant +ℤ (factor *ℤ row.constant))
+  pub row_value : (factor : ℤ) (row : SparseRow) (s t : Sums) → EndsAt (length s.columns) →
+      add_row factor row s ≡ Some t →
+      (length t.columns ≡ length s.columns)
+      × (value_from t.columns 0 x ≡ value_from s.columns 0 x +ℤ (factor *ℤ left_side row.entries x))
+      × (t.constant ≡ s.constant +ℤ (factor *ℤ row.constant))
   row_value factor row s t ends h =
-      let both = row_parts (add_entries factor row.entries (Some s.columns)) (plus_product s.constant factor row.constant) t h in
+      let both = row_parts (add_entries factor row.entries (Some s.columns))
+      (plus_product s.constant factor row.constant) t h in
       let entries = entries_value factor row.entries s.columns t.columns ends both.0 in
       (entries.0, entries.1, product_is s.constant factor row.constant t.constant both.1)
 
+  -- each item, so often as it is taken, is a bound that holds
+  abbrev pub AreBounds : Designed → List Lemma → List Lit → Type 0
+  AreBounds it lemmas path = (i : Item) (row : SparseRow) → item_row it lemmas path i ≡ Some row →
+      has_sign i ≡ true → (multiplier i *ℤ row.constant) ≤ℤ (multiplier i *ℤ left_side row.entries x)
+
   -- bounds that hold of each item hold of their sum
   pub sum_bound : (it : Designed) (lemmas : List Lemma) (path : List Lit) →
-      ((i : Item) (row : SparseRow) → item_row it lemmas path i ≡ Some row → has_sign i ≡ true → (multiplier i *ℤ row.constant) ≤ℤ (multiplier i *ℤ left_side row.entries x)) →
+      AreBounds it lemmas path →
       (is : List Item) (s t : Sums) → EndsAt (length s.columns) → AddUp it lemmas path is s t →
       (t.constant +ℤ value_from s.columns 0 x) ≤ℤ (value_from t.columns 0 x +ℤ s.constant)
   sum_bound it lemmas path kept [] s t ends up =
@@ -123,12 +149,13 @@ module _ (x : ℕ → ℤ) where
       omega (arith, ints)
 
   -- so a sum never closes
-  pub no_sum : (it : Designed) (lemmas : List Lemma) (path : List Lit) (items : List Item) → EndsAt (length (queue_columns it)) →
-      ((i : Item) (row : SparseRow) → item_row it lemmas path i ≡ Some row → has_sign i ≡ true → (multiplier i *ℤ row.constant) ≤ℤ (multiplier i *ℤ left_side row.entries x)) →
+  pub no_sum : (it : Designed) (lemmas : List Lemma) (path : List Lit) (items : List Item) →
+      EndsAt (length (queue_columns it)) → AreBounds it lemmas path →
       Closes it lemmas path items → ⊥
   no_sum it lemmas path items ends kept closes =
       let n = length (queue_columns it) in
-      let bound = sum_bound it lemmas path kept items (no_sums n) closes.sums (subst EndsAt (sym (length-replicate n (pos 0))) ends) closes.add_up in
+      let bound = sum_bound it lemmas path kept items (no_sums n) closes.sums
+      (subst EndsAt (sym (length-replicate n (pos 0))) ends) closes.add_up in
       let first = value-zeros n 0 x in
       let last = value-all_zero closes.sums.columns 0 x closes.nothing_left in
       let large = closes.large in

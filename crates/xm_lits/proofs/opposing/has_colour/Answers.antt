@@ -7,4 +7,4 @@ use Rattle.xm_lits.proofs.opposing.has_colour.Goals as goal
 
 pub returns : goal.returns
 returns c =
-    told_by c.has.result (colours_at c.args.design.now.colours c.args.c) c.args.d (subst (λ (cs : List (List ℕ)). IsTrue c.has.result ↔ IsIn (colours_at cs c.args.c) c.args.d) c.colours.ensures.value c.has.ensures)
+    told_by c.has.result (colours_at c.args.design.now.colours c.args.channel) c.args.colour (subst (λ (cs : List (List ℕ)). IsTrue c.has.result ↔ IsIn (colours_at cs c.args.channel) c.args.colour) c.colours.ensures.value c.has.ensures)
