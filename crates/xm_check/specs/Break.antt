@@ -1,6 +1,7 @@
 -- The first break of a proof, in the order in which a checker goes: lemmas, goals, missing goals, and then the steps of
 -- each goal. Each test has its reasons in order.
-use Rattle.std.specs.Prelude.{◌≡◌, ◌<◌, ◌<ℤ◌, All, pos, take, ℕ, suc, List, [], ◌∷◌, ◌++◌, Option, Some, None, Result, Ok, Err, ⊤, Bool, false, not, ◌&&◌, nat_eq, length, slice_get}
+use Rattle.std.specs.Prelude.{◌≡◌, ◌<◌, ◌<ℤ◌, ◌&&◌, ◌++◌, ◌∷◌, [], ℕ, suc, pos, Bool, false, not, nat_eq, List, All}
+use Rattle.std.specs.Prelude.{length, slice_get, take, Option, Some, None, Result, Ok, Err, ⊤}
 use Rattle.xm_colours.specs.Family.{colours_at}
 use Rattle.xm_design.specs.Designed.{Designed}
 use Rattle.xm_flow.specs.Holding.{pair_count, queue_pair_count}
@@ -37,7 +38,8 @@ pub data LemmaBreaks (it : Designed) (rows : List SparseRow) (l : Lemma) : Reaso
       → ¬ IsValid (pair_count it) (queue_pair_count it) rows l → LemmaBreaks it rows l reason.Lemma
 
 -- lemma k is the first that is not valid, for this reason
-pub record IsFirstLemmaBreak (it : Designed) (rows : List SparseRow) (ls : List Lemma) (k : ℕ) (why : Reason) : Type 0 where
+pub record IsFirstLemmaBreak (it : Designed) (rows : List SparseRow) (ls : List Lemma) (k : ℕ) (why : Reason) :
+    Type 0 where
   pub lemma : Lemma
   pub at : slice_get ls k ≡ Some lemma
   pub breaks : LemmaBreaks it rows lemma why
@@ -102,7 +104,8 @@ at_place p (Ok x) = Ok x
 at_place p (Err why) = Err (p, why)
 
 -- the steps of goal k, numbered from i on, one after another
-abbrev pub steps_test : Designed → List Lemma → List Lit → ℕ → ℕ → List Step → List (List Lit) → Result ⊤ (ProofPath × Reason)
+abbrev pub steps_test : Designed → List Lemma → List Lit → ℕ → ℕ → List Step → List (List Lit)
+    → Result ⊤ (ProofPath × Reason)
 steps_test it lemmas before k i [] paths = Ok tt
 steps_test it lemmas before k i (step ∷ steps) [] = Ok tt
 steps_test it lemmas before k i (step ∷ steps) (path ∷ paths) = do

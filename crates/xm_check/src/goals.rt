@@ -1,6 +1,7 @@
 //! Goals of a proof: that each pair of a channel and a colour is one, and none is one twice.
 
-ghost use Rattle.std.specs.Prelude.{All, nat_lt, ◌≡◌, ◌+◌, ◌*◌, ◌<◌, ◌≤◌, ◌&&◌, ◌++◌, ◌∷◌, [], Err, IfNone, IfOk, IfSome, IsTrue, List as Items, Ok, false, length, map, not, slice_index_or, slice_set, true};
+ghost use Rattle.std.specs.Prelude.{◌≡◌, ◌+◌, ◌*◌, ◌<◌, ◌&&◌, ◌++◌, ◌∷◌, [], All, Err, IfNone, IfOk, IfSome, IsTrue};
+ghost use Rattle.std.specs.Prelude.{List as Items, Ok, false, length, map, nat_lt, not, slice_index_or, slice_set, true};
 ghost use Rattle.xm_check.specs.Break as broken;
 ghost use Rattle.xm_check.specs.Inner.Marked.{AreMarks, are_marked_at};
 ghost use Rattle.xm_colours.specs.Family.{colours_at};

@@ -8,7 +8,8 @@ ghost use Rattle.xm_colours.specs.Family.{colours_at};
 ghost use Rattle.xm_model.specs.Steps as steps;
 ghost use Rattle.xm_flow.specs.ValidLemma.{lemma_of};
 ghost use Rattle.xm_proof.specs.Sums.{add_row, no_sums};
-ghost use Rattle.xm_proof.specs.Tests.{capacity_row, count_row, entries_where, is_queue, is_queue_pair, literal_row, low_row, of_pair, of_queue, only_where, queue_columns};
+ghost use Rattle.xm_proof.specs.Tests.{capacity_row, count_row, entries_where, is_queue, is_queue_pair, literal_row};
+ghost use Rattle.xm_proof.specs.Tests.{low_row, of_pair, of_queue, only_where, queue_columns};
 ghost use Rattle.xm_proof.specs.Valid.{lemma_row, of_a_queue};
 
 use crate::stop::{Stop, demand};
@@ -54,7 +55,8 @@ fn push_count(
     value: i128,
 ) -> Result<(), OutOfMemory>
     requires { IsQueueAt design.now q out capacity }
-    ensures { OnOk result (entries.new.items ≡ entries.old.items ++ entries_where (of_pair q d) value 0 (queue_columns design.now)) }
+    ensures { OnOk result (entries.new.items ≡ entries.old.items ++ entries_where (of_pair q d) value 0
+        (queue_columns design.now)) }
 {
     let _ = capacity;
     let _net = design.net();
@@ -109,7 +111,9 @@ fn packet(
 
 /// That a queue has at most as many packets as its capacity.
 fn capacity_made(alloc: Global, design: &Design, q: u32) -> Result<Made, Stop>
-    ensures row { Gives made_row result (steps.demand (only_where (is_queue (slice_get design.now.net.prims q)) (Some (capacity_row design.now q))) Reason.Absent) }
+    ensures row { Gives made_row result
+        (steps.demand (only_where (is_queue (slice_get design.now.net.prims q)) (Some (capacity_row design.now q)))
+        Reason.Absent) }
     ensures over { IfOk result (λ made. IsOver (length (queue_columns design.now)) made.entries.items) }
 {
     let Some((out, capacity)) = queue(design, q) else {
@@ -132,7 +136,9 @@ fn has_pair(design: &Design, q: u32, out: u32, capacity: u32, d: u8) -> bool
 
 /// That a count of packets is at least 0.
 fn low_made(alloc: Global, design: &Design, q: u32, d: u8) -> Result<Made, Stop>
-    ensures row { Gives made_row result (steps.demand (only_where (is_queue_pair (colours_at design.now.colours) d (slice_get design.now.net.prims q)) (Some (low_row design.now q d))) Reason.Absent) }
+    ensures row { Gives made_row result
+        (steps.demand (only_where (is_queue_pair (colours_at design.now.colours) d (slice_get design.now.net.prims
+        q)) (Some (low_row design.now q d))) Reason.Absent) }
     ensures over { IfOk result (λ made. IsOver (length (queue_columns design.now)) made.entries.items) }
 {
     let Some((out, capacity)) = queue(design, q) else {
@@ -149,7 +155,9 @@ fn low_made(alloc: Global, design: &Design, q: u32, d: u8) -> Result<Made, Stop>
 
 /// That a queue is full.
 fn full_made(alloc: Global, design: &Design, q: u32) -> Result<Made, Stop>
-    ensures row { Gives made_row result (steps.demand (only_where (is_queue (slice_get design.now.net.prims q)) (literal_row design.now (Lit.Full q))) Reason.Absent) }
+    ensures row { Gives made_row result
+        (steps.demand (only_where (is_queue (slice_get design.now.net.prims q)) (literal_row design.now (Lit.Full
+        q))) Reason.Absent) }
     ensures over { IfOk result (λ made. IsOver (length (queue_columns design.now)) made.entries.items) }
 {
     let Some((out, capacity)) = queue(design, q) else {
@@ -170,7 +178,9 @@ fn count_made(
     value: i128,
     constant: i128,
 ) -> Result<Made, Stop>
-    ensures row { Gives made_row result (steps.demand (only_where (is_queue (slice_get design.now.net.prims q)) (Some (count_row design.now value q d constant))) Reason.Absent) }
+    ensures row { Gives made_row result
+        (steps.demand (only_where (is_queue (slice_get design.now.net.prims q)) (Some (count_row design.now value q d
+        constant))) Reason.Absent) }
     ensures over { IfOk result (λ made. IsOver (length (queue_columns design.now)) made.entries.items) }
 {
     let Some((out, capacity)) = queue(design, q) else {
@@ -184,7 +194,8 @@ fn count_made(
 
 /// What a literal says of packets.
 fn literal_made(alloc: Global, design: &Design, lit: &Lit) -> Result<Made, Stop>
-    ensures row { Gives made_row result (steps.demand (only_where (of_a_queue design.now lit.now) (literal_row design.now lit.now)) Reason.Absent) }
+    ensures row { Gives made_row result
+        (steps.demand (only_where (of_a_queue design.now lit.now) (literal_row design.now lit.now)) Reason.Absent) }
     ensures over { IfOk result (λ made. IsOver (length (queue_columns design.now)) made.entries.items) }
 {
     match *lit {
@@ -207,7 +218,8 @@ fn add_made(sums: Sums, made: &Made, times: i128) -> Result<Sums, Stop>
 /// The lemma at this place.
 fn lemma_at<'a>(design: &Design, lemmas: &'a [Invariant], k: u32) -> Result<&'a Invariant, Stop>
     requires { AreOver (length (queue_columns design.now)) lemmas.now }
-    ensures row { Gives (λ lemma. lemma.now.row) result (steps.demand (lemma_row (slice_get (map lemma_of lemmas.now) k)) Reason.Absent) }
+    ensures row { Gives (λ lemma. lemma.now.row) result
+        (steps.demand (lemma_row (slice_get (map lemma_of lemmas.now) k)) Reason.Absent) }
     ensures over { IfOk result (λ lemma. IsOver (length (queue_columns design.now)) lemma.now.row.entries) }
 {
     let _ = design;
@@ -236,7 +248,8 @@ fn add_item(
 ) -> Result<Sums, Stop>
     requires columns { length sums.columns ≡ length (queue_columns design.now) }
     requires lemmas { AreOver (length (queue_columns design.now)) lemmas.now }
-    ensures { Gives (λ sums. sums) result (broken.item_test design.now (map lemma_of lemmas.now) path.now item.now sums) }
+    ensures { Gives (λ sums. sums) result
+        (broken.item_test design.now (map lemma_of lemmas.now) path.now item.now sums) }
 {
     match *item {
         Item::Lemma(k, times) => {

@@ -76,7 +76,8 @@ fn same_colour(one: Option<u8>, other: Option<u8>) -> bool
 
 /// Whether the rule has this name and this colour.
 fn is_named(rule: &Rule, name: RuleName, via: Option<u8>) -> bool
-    ensures { result ≡ (nat_eq (tests.name_number rule.now.name) (tests.name_number name) && tests.same_colour rule.now.via via) }
+    ensures { result ≡ (nat_eq (tests.name_number rule.now.name) (tests.name_number name) && tests.same_colour
+        rule.now.via via) }
 {
     number_of(rule.name) == number_of(name) && same_colour(rule.via, via)
 }
@@ -85,7 +86,8 @@ fn is_named(rule: &Rule, name: RuleName, via: Option<u8>) -> bool
 fn place_of(rules: &[Rule], name: RuleName, via: Option<u8>) -> Option<u32>
     requires { length rules.now < 4294967296 }
     ensures none { IfNone result (tests.find_rule (map inference_of rules.now) name via ≡ None) }
-    ensures some { IfSome result (λ i. tests.find_rule (map inference_of rules.now) name via ≡ slice_get (map inference_of rules.now) i) }
+    ensures some { IfSome result (λ i. tests.find_rule (map inference_of rules.now) name via ≡ slice_get (map
+        inference_of rules.now) i) }
     ensures within { IfSome result (λ i. i < length rules.now) }
 {
     for i in 0..rules.len() {
@@ -104,7 +106,8 @@ fn find(
     on: &Lit,
     via: Option<u8>,
 ) -> Result<Rule, Stop>
-    ensures { Gives inference_of result (steps.demand (tests.find_rule (rules_of design.now on.now) name via) Reason.Rule) }
+    ensures { Gives inference_of result
+        (steps.demand (tests.find_rule (rules_of design.now on.now) name via) Reason.Rule) }
 {
     let mut rules = rules(alloc, design, on)?;
     if rules.len() > u32::MAX as usize {
@@ -126,7 +129,8 @@ fn check_split(
     via: Option<u8>,
     kids: u32,
 ) -> Result<List<List<Lit>>, Stop>
-    ensures { Gives (λ alternatives. tests.longer path.now (alternatives_of alternatives.items)) result (broken.step_test design.now [] [] path.now (argument.Split name on.now via kids)) }
+    ensures { Gives (λ alternatives. tests.longer path.now (alternatives_of alternatives.items)) result
+        (broken.step_test design.now [] [] path.now (argument.Split name on.now via kids)) }
 {
     demand(is_on_path(path, on), Reason::Absent)?;
     let rule = find(alloc, design, name, on, via)?;
@@ -190,7 +194,9 @@ pub fn check_step(
 ) -> Result<Step, Stop>
     requires lemmas { AreOver (length (queue_columns given.now.design.now)) given.now.lemmas.now }
     requires sums { sums ≡ no_sums (length (queue_columns given.now.design.now)) }
-    ensures verdict { Gives (λ step. tests.longer path.now (alternatives_of step.alternatives.items)) result (broken.step_test given.now.design.now (map lemmas.lemma_of given.now.lemmas.now) (map (λ goal. goal.lit) given.now.before.now) path.now (argument.step_of node.now)) }
+    ensures verdict { Gives (λ step. tests.longer path.now (alternatives_of step.alternatives.items)) result
+        (broken.step_test given.now.design.now (map lemmas.lemma_of given.now.lemmas.now)
+        (map (λ goal. goal.lit) given.now.before.now) path.now (argument.step_of node.now)) }
     ensures sums { IfOk result (λ step. step.sums ≡ no_sums (length (queue_columns given.now.design.now))) }
 {
     match node {

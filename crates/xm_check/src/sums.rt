@@ -1,6 +1,7 @@
 //! Sums of rows, column by column, within 128 bits.
 
-ghost use Rattle.std.specs.Prelude.{◌≡◌, ◌<◌, ◌≤◌, ◌++◌, ℕ, All, cond, length, map, pos, ◌+ℤ◌, ◌*ℤ◌, SomeIff, IfOk, OnOk, Some, None, slice_index_or};
+ghost use Rattle.std.specs.Prelude.{◌≡◌, ◌<◌, ◌≤◌, ◌++◌, ℕ, All, cond, length, map, pos, ◌+ℤ◌, ◌*ℤ◌};
+ghost use Rattle.std.specs.Prelude.{SomeIff, IfOk, OnOk, Some, None, slice_index_or};
 ghost use Rattle.xm_check.specs.Inner.Gives.{Gives};
 ghost use Rattle.xm_check.specs.Inner.Touched.{cleared, zero_at};
 ghost use Rattle.xm_model.specs.Steps as steps;
@@ -66,7 +67,9 @@ fn plus_product(so_far: i128, factor: i128, value: i128) -> Option<i128>
 /// Adds a product to a column; whether all of it stays in 128 bits.
 fn add_entry(columns: &mut [i128], column: usize, factor: i128, value: i128) -> bool
     requires { column < length columns.old }
-    ensures { spec.put columns.old column (spec.plus_product (slice_index_or columns.old column (pos 0)) factor value) ≡ cond result (Some columns.new) None }
+    ensures { spec.put columns.old column
+        (spec.plus_product (slice_index_or columns.old column (pos 0)) factor value) ≡ cond result (Some columns.new)
+        None }
 {
     match plus_product(columns[column], factor, value) {
         Some(z) => {
@@ -139,7 +142,9 @@ impl Sums {
     /// Adds a row, taken so often, where all of it stays in 128 bits. Time is linear in its entries.
     pub fn add(self, factor: i128, entries: &[Entry], constant: i128) -> Result<Sums, Stop>
         requires { All (λ e. e.column < length self.columns) entries.now }
-        ensures { Gives (λ sums. sums) result (steps.demand (spec.add_row factor (record { entries = entries.now; constant = constant }) self) Reason.Overflow) }
+        ensures { Gives (λ sums. sums) result
+            (steps.demand (spec.add_row factor (record { entries = entries.now; constant = constant }) self)
+            Reason.Overflow) }
     {
         let Sums {
             mut columns,

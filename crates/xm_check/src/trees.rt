@@ -63,7 +63,8 @@ fn extend(path: &mut List<Lit>, lits: &[Lit]) -> Result<(), OutOfMemory>
 /// The path at hand, longer by each of the alternatives, is left.
 fn leave(left: &mut List<Left>, base: u32, alternatives: List<List<Lit>>) -> Result<(), OutOfMemory>
     requires { length alternatives.items < 4294967296 }
-    ensures { OnOk result (reverse left.new.items ≡ map (λ lits. record { base = base; lits = lits }) alternatives.items ++ reverse left.old.items) }
+    ensures { OnOk result (reverse left.new.items ≡ map (λ lits. record { base = base; lits = lits })
+        alternatives.items ++ reverse left.old.items) }
 {
     let mut alternatives = alternatives;
     while !alternatives.is_empty() {
@@ -95,7 +96,9 @@ fn check_here(
     requires nested { AreNested (length path.items) (reverse left.items) }
     requires lemmas { AreOver (length (queue_columns given.now.design.now)) given.now.lemmas.now }
     requires sums { sums ≡ no_sums (length (queue_columns given.now.design.now)) }
-    ensures verdict { Gives (λ walk. paths_of walk.path.items (reverse walk.left.items)) result (next_test given.now.design.now (map lemmas.lemma_of given.now.lemmas.now) (map (λ goal. goal.lit) given.now.before.now) (argument.step_of node.now) (path.items ∷ paths_of path.items (reverse left.items))) }
+    ensures verdict { Gives (λ walk. paths_of walk.path.items (reverse walk.left.items)) result (next_test
+        given.now.design.now (map lemmas.lemma_of given.now.lemmas.now) (map (λ goal. goal.lit) given.now.before.now)
+        (argument.step_of node.now) (path.items ∷ paths_of path.items (reverse left.items))) }
     ensures walk { IfOk result (λ walk. IsWalking walk) }
     ensures sums { IfOk result (λ walk. walk.sums ≡ no_sums (length (queue_columns given.now.design.now))) }
 {
@@ -116,7 +119,9 @@ fn check_next(alloc: Global, given: &Given, walk: Walk, node: &Node) -> Result<W
     requires walk { IsWalking walk }
     requires lemmas { AreOver (length (queue_columns given.now.design.now)) given.now.lemmas.now }
     requires sums { walk.sums ≡ no_sums (length (queue_columns given.now.design.now)) }
-    ensures verdict { Gives (λ walk. paths_of walk.path.items (reverse walk.left.items)) result (next_test given.now.design.now (map lemmas.lemma_of given.now.lemmas.now) (map (λ goal. goal.lit) given.now.before.now) (argument.step_of node.now) (paths_of walk.path.items (reverse walk.left.items))) }
+    ensures verdict { Gives (λ walk. paths_of walk.path.items (reverse walk.left.items)) result (next_test
+        given.now.design.now (map lemmas.lemma_of given.now.lemmas.now) (map (λ goal. goal.lit) given.now.before.now)
+        (argument.step_of node.now) (paths_of walk.path.items (reverse walk.left.items))) }
     ensures walk { IfOk result (λ walk. IsWalking walk) }
     ensures sums { IfOk result (λ walk. walk.sums ≡ no_sums (length (queue_columns given.now.design.now))) }
 {
@@ -147,7 +152,9 @@ pub fn check_tree(
     requires few { length nodes.now < 4294967296 }
     requires lemmas { AreOver (length (queue_columns given.now.design.now)) given.now.lemmas.now }
     requires sums { sums ≡ no_sums (length (queue_columns given.now.design.now)) }
-    ensures verdict { GivesAt result (broken.steps_test given.now.design.now (map lemmas.lemma_of given.now.lemmas.now) (map (λ goal. goal.lit) given.now.before.now) k 0 (map argument.step_of nodes.now) ((lit ∷ []) ∷ [])) }
+    ensures verdict { GivesAt result (broken.steps_test given.now.design.now (map lemmas.lemma_of
+        given.now.lemmas.now) (map (λ goal. goal.lit) given.now.before.now) k 0 (map argument.step_of nodes.now)
+        ((lit ∷ []) ∷ [])) }
     ensures sums { IfOk result (λ sums. sums ≡ no_sums (length (queue_columns given.now.design.now))) }
 {
     let Ok(mut walk) = start(alloc, lit, sums) else {
