@@ -1,0 +1,4 @@
+pub mod Texts
+pub mod After
+pub mod Rows
+pub mod Counting

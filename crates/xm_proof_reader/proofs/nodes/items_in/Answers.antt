@@ -1,0 +1,13 @@
+use Rattle.std.proofs.Common.{◌≡◌, ◌++◌, ◌∷◌, [], map}
+use Rattle.serde_json.specs.View.{view}
+use Rattle.xm_json.specs.Lemmas.Walk.{goes_on}
+use Rattle.xm_json.specs.Path.{place_of}
+use Rattle.xm_proof_reader.specs.Inner.Views.{known_of}
+use Rattle.xm_proof_reader.specs.Reading.{item_at}
+use Rattle.xm_proof_reader.proofs.nodes.items_in.Goals as goal
+
+pub loop-place-preserved : goal.loop-place-preserved
+loop-place-preserved c =
+    let e : c.push.new.self.items ≡ c.loop-place.items.items ++ c.in_ok-item.item ∷ [] = c.in_ok-push.ensures.ok in
+    rw e (goes_on view (λ i x. item_at (known_of c.args.known.now) (place_of c.args.path.now i) x) _ c.args.values.now c.loop-place.place c.loop-place.place
+    c.index-values-place.result _ _ c.loop-place-test.true c.index-values-place.is c.in_ok-item.ensures c.loop-place.invariant)

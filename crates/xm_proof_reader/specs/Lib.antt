@@ -1,0 +1,5 @@
+pub mod Gives
+pub mod Inner
+pub mod Known
+pub mod Numbers
+pub mod Reading

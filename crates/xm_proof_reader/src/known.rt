@@ -1,0 +1,118 @@
+//! What a reader of proofs knows: the design, its names and its queue pairs.
+
+ghost use Rattle.std.specs.Prelude.{◌≡◌, Some, option_and_then};
+ghost use Rattle.serde_json.specs.Find.{as_str};
+ghost use Rattle.serde_json.specs.View.{view};
+ghost use Rattle.xm_model.specs.Naming.{texts_of};
+ghost use Rattle.xm_proof_reader.specs.Inner.Views.{known_of};
+ghost use Rattle.xm_proof_reader.specs.Known as spec;
+
+use serde_json::Value;
+use xm_design::Design;
+use xm_model::{List, Names, Prim, Text};
+
+/// The design, its names, and its queue pairs in their order.
+#[derive(Drop)]
+pub struct Known<'a> {
+    pub design: &'a Design,
+    pub names: &'a Names,
+    pub pairs: List<(u32, u8)>,
+}
+
+/// The first place of a name.
+fn place_of(names: &[Text], name: &str) -> Option<usize>
+    ensures { result ≡ spec.place_from 0 (texts_of names.now) name.now }
+{
+    for (i, known) in names.iter().enumerate() {
+        if known.as_bytes() == name.as_bytes() {
+            return Some(i);
+        }
+    }
+    None
+}
+
+/// The number of the channel with this name.
+fn channel_named(known: &Known<'_>, name: &str) -> Option<u32>
+    ensures { result ≡ spec.channel_named (known_of known.now) name.now }
+{
+    match place_of(known.names.channels.as_slice(), name) {
+        Some(c) if c < known.design.net().channels() as usize => Some(c as u32),
+        _ => None,
+    }
+}
+
+/// The number of the colour with this name.
+fn colour_named(known: &Known<'_>, name: &str) -> Option<u8>
+    ensures { result ≡ spec.colour_named (known_of known.now) name.now }
+{
+    match place_of(known.names.colours.as_slice(), name) {
+        Some(d) if d < known.design.net().colours() as usize => Some(d as u8),
+        _ => None,
+    }
+}
+
+/// The place as a number, where it is that of a queue.
+fn queue_number(design: &Design, place: usize) -> Option<u32>
+    ensures { result ≡ spec.only_queue design.now (Some place) }
+{
+    let net = design.net();
+    if place >= net.prims().len() {
+        return None;
+    }
+    match net.prim(place as u32) {
+        Prim::Queue { .. } => Some(place as u32),
+        _ => None,
+    }
+}
+
+/// The number of the queue with this name.
+fn queue_named(known: &Known<'_>, name: &str) -> Option<u32>
+    ensures { result ≡ spec.queue_named (known_of known.now) name.now }
+{
+    match place_of(known.names.prims.as_slice(), name) {
+        Some(place) => queue_number(known.design, place),
+        None => None,
+    }
+}
+
+/// The number of the channel that the value names.
+pub fn channel_in(known: &Known<'_>, value: &Value) -> Option<u32>
+    ensures { result ≡ option_and_then (spec.channel_named (known_of known.now)) (as_str (view value.now)) }
+{
+    match value.as_str() {
+        Some(name) => channel_named(known, name),
+        None => None,
+    }
+}
+
+/// The number of the colour that the value names.
+pub fn colour_in(known: &Known<'_>, value: &Value) -> Option<u8>
+    ensures { result ≡ option_and_then (spec.colour_named (known_of known.now)) (as_str (view value.now)) }
+{
+    match value.as_str() {
+        Some(name) => colour_named(known, name),
+        None => None,
+    }
+}
+
+/// The number of the queue that the value names.
+pub fn queue_in(known: &Known<'_>, value: &Value) -> Option<u32>
+    ensures { result ≡ option_and_then (spec.queue_named (known_of known.now)) (as_str (view value.now)) }
+{
+    match value.as_str() {
+        Some(name) => queue_named(known, name),
+        None => None,
+    }
+}
+
+/// The place of a queue pair among all.
+pub fn pair_place(pairs: &[(u32, u8)], q: u32, d: u8) -> Option<usize>
+    ensures { result ≡ spec.pair_from 0 pairs.now q d }
+{
+    for i in 0..pairs.len() {
+        if pairs[i].0 == q && pairs[i].1 == d {
+            return Some(i);
+        }
+    }
+    None
+}

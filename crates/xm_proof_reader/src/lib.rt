@@ -1,0 +1,16 @@
+//! Proofs read from JSON: the proof that a value is, or the path of its first break.
+#![tactic(auto)]
+
+mod fault;
+mod goals;
+mod items;
+mod known;
+mod lemmas;
+mod lists;
+mod literals;
+mod nodes;
+mod numbers;
+mod read;
+
+pub use fault::ProofFault;
+pub use read::read_proof;
