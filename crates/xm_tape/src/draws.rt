@@ -11,7 +11,7 @@ const MULTIPLIER: u64 = 6364136223846793005;
 const INCREMENT: u64 = 1442695040888963407;
 
 /// The generator's next number.
-fn next_number(number: u64) -> u64
+pub fn next_number(number: u64) -> u64
     ensures { result ≡ spec.next_number number }
 {
     number.wrapping_mul(MULTIPLIER).wrapping_add(INCREMENT)
@@ -19,7 +19,7 @@ fn next_number(number: u64) -> u64
 
 /// The draw below `bound` that a number is: of its upper 31 bits. The bounds of sinks, and of sources of one and
 /// two colours, are told apart, since a remainder by a known number costs less.
-fn draw(number: u64, bound: u64) -> u64
+pub fn draw(number: u64, bound: u64) -> u64
     requires { 0 < bound }
     ensures { result ≡ spec.draw number bound }
 {

@@ -13,6 +13,7 @@ mod rows;
 mod tape;
 mod written;
 
+pub use draws::{draw, next_number};
 pub use fault::TapeFault;
 pub use limits::{MOST_CYCLES, MOST_CYCLES_BY_CHANNELS};
 pub use read::read_tape;
