@@ -1,8 +1,10 @@
 mod Checked
 mod Fronts
 mod OneAnswer
+mod OneBasis
 mod OneColours
 mod OneText
+mod Printed
 mod Ran
 mod Refusing
 mod Rounds

@@ -51,6 +51,7 @@ run_ended (Err refusal.Words) bytes text sink is whole front unharmed cause = ca
 run_ended (Err (refusal.Document line)) bytes text sink is whole front unharmed cause = absurd cause
 run_ended (Err (refusal.Net line)) bytes text sink is whole front unharmed cause = absurd cause
 run_ended (Err (refusal.Tape line)) bytes text sink is whole front unharmed cause = absurd cause
+run_ended (Err (refusal.Overflow line)) bytes text sink is whole front unharmed cause = absurd cause
 run_ended (Err refusal.Read) bytes text sink is whole front unharmed cause = cause
 run_ended (Err refusal.Write) bytes text sink is whole front unharmed cause = (cause, (text, is, front))
 run_ended (Err refusal.Memory) bytes text sink is whole front unharmed cause = (cause, inr (text, is, front))

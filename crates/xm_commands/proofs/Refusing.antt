@@ -86,6 +86,7 @@ refused_cause bytes it sink refusal.Words is same unharmed = is
 refused_cause bytes it sink (refusal.Document line) is same unharmed = (is, same)
 refused_cause bytes it sink (refusal.Net line) is same unharmed = (is, same)
 refused_cause bytes it sink (refusal.Tape line) is same unharmed = (is, same)
+refused_cause bytes it sink (refusal.Overflow line) is same unharmed = (is, same)
 refused_cause bytes it sink refusal.Read is same unharmed = is
 refused_cause bytes it sink refusal.Write is same unharmed = absurd is
 refused_cause bytes it sink refusal.Memory is same unharmed = (unharmed, inl same)

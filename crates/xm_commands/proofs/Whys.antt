@@ -11,6 +11,7 @@ use Rattle.xm_commands.specs.Inner.WhyEnded.{Change, HasAnswered, HasEnded, IsUn
 use Rattle.xm_commands.specs.declared.command.Command.{Command}
 use Rattle.xm_commands.specs.declared.refusal.Refusal.{Refusal}
 use Rattle.xm_commands.specs.declared.refusal.Refusal.TheVariants as refusal
+use Rattle.xm_elim.specs.Elimination.{ExclusiveEnds}
 use Rattle.xm_io.specs.Bytes.{ReadsWhole, TakesAtMost, TakesMoreThan}
 use Rattle.xm_io.specs.Faults.{Rose}
 use Rattle.xm_order.specs.Loop.{NoLoop}
@@ -28,6 +29,7 @@ read_whole it source sink bytes (Err refusal.Words) gave unharmed answered = ans
 read_whole it source sink bytes (Err (refusal.Document line)) gave unharmed answered = record { bytes = bytes; gave = gave; refused = answered.0; unharmed = unharmed; quiet = answered.1 }
 read_whole it source sink bytes (Err (refusal.Net line)) gave unharmed answered = record { bytes = bytes; gave = gave; refused = answered.0; unharmed = unharmed; quiet = answered.1 }
 read_whole it source sink bytes (Err (refusal.Tape line)) gave unharmed answered = record { bytes = bytes; gave = gave; refused = answered.0; unharmed = unharmed; quiet = answered.1 }
+read_whole it source sink bytes (Err (refusal.Overflow line)) gave unharmed answered = record { bytes = bytes; gave = gave; refused = answered.0; unharmed = unharmed; quiet = answered.1 }
 read_whole it source sink bytes (Err refusal.Read) gave unharmed answered = absurd answered
 read_whole it source sink bytes (Err refusal.Write) gave unharmed answered = (answered.0, unharmed, record { bytes = bytes; gave = gave; printed = answered.1 })
 read_whole it source sink bytes (Err refusal.Memory) gave unharmed answered = (
@@ -95,6 +97,7 @@ module _ {S K : Type 0} (source : Change S) (sink : Change K) where
   why_read_unharmed (Some it) (refusal.Document line) why other = why.unharmed
   why_read_unharmed (Some it) (refusal.Net line) why other = why.unharmed
   why_read_unharmed (Some it) (refusal.Tape line) why other = why.unharmed
+  why_read_unharmed (Some it) (refusal.Overflow line) why other = why.unharmed
   why_read_unharmed (Some it) refusal.Read why other = absurd (other refl)
   why_read_unharmed (Some it) refusal.Write why other = why.1
   why_read_unharmed (Some it) refusal.Memory why other = why.0
@@ -116,6 +119,7 @@ module _ {S K : Type 0} (source : Change S) (sink : Change K) where
   why_write_unharmed (Some it) (refusal.Document line) why harmless other = harmless why.quiet
   why_write_unharmed (Some it) (refusal.Net line) why harmless other = harmless why.quiet
   why_write_unharmed (Some it) (refusal.Tape line) why harmless other = harmless why.quiet
+  why_write_unharmed (Some it) (refusal.Overflow line) why harmless other = harmless why.quiet
   why_write_unharmed (Some it) refusal.Read why harmless other = harmless why.2
   why_write_unharmed (Some it) refusal.Write why harmless other = absurd (other refl)
   why_write_unharmed (Some it) refusal.Memory why harmless other = why.1
@@ -127,6 +131,7 @@ module _ {S K : Type 0} (source : Change S) (sink : Change K) where
   why_quiet (Some it) (refusal.Document line) why not_write not_memory = why.quiet
   why_quiet (Some it) (refusal.Net line) why not_write not_memory = why.quiet
   why_quiet (Some it) (refusal.Tape line) why not_write not_memory = why.quiet
+  why_quiet (Some it) (refusal.Overflow line) why not_write not_memory = why.quiet
   why_quiet (Some it) refusal.Read why not_write not_memory = why.2
   why_quiet (Some it) refusal.Write why not_write not_memory = absurd (not_write refl)
   why_quiet (Some it) refusal.Memory why not_write not_memory = absurd (not_memory refl)
@@ -147,6 +152,7 @@ module _ {S K : Type 0} (source : Change S) (sink : Change K) where
     why_refused (refusal.Document line) held now before after why told is = record { bytes = why.bytes; gave = why.gave; line = line.items; refused = why.refused; told = told }
     why_refused (refusal.Net line) held now before after why told is = record { bytes = why.bytes; gave = why.gave; line = line.items; refused = why.refused; told = told }
     why_refused (refusal.Tape line) held now before after why told is = record { bytes = why.bytes; gave = why.gave; line = line.items; refused = why.refused; told = told }
+    why_refused (refusal.Overflow line) held now before after why told is = record { bytes = why.bytes; gave = why.gave; line = line.items; refused = why.refused; told = told }
     why_refused _ held now before after why told is = cc
 
 pub why_called : {S K : Type 0} (source : Change S) (sink : Change K) (called : Option Command) (it : Command) (r : Refusal) → called ≡ Some it → IsWhyCalled called source sink r → IsWhy it source sink r
@@ -180,13 +186,14 @@ not_longer limit (Some xs) (Some ys) bytes is within more =
     omega (arith, within, more.1, ap length same, ap length more.2, length-append more.0 ys)
 
 module _ {S K : Type 0} (it : Command) (source : Change S) (sink : Change K) where
-  pub why_complete : NoLoop → (bytes text : List ℕ) → source.bytes_before ≡ Some bytes → length bytes ≤ most_bytes → IsOutput bytes it text → (Rose source.faults_before source.faults_after → ⊥)
+  pub why_complete : NoLoop → ExclusiveEnds → (bytes text : List ℕ) → source.bytes_before ≡ Some bytes → length bytes ≤ most_bytes → IsOutput bytes it text → (Rose source.faults_before source.faults_after → ⊥)
       → (Rose sink.faults_before sink.faults_after → ⊥) → (r : Refusal) → IsWhy it source sink r → status_of r ≡ 9
-  why_complete none bytes text is within output no_read no_write refusal.Words why = absurd why
-  why_complete none bytes text is within output no_read no_write (refusal.Document line) why = absurd (excludes none why.refused (subst (λ (x : List ℕ). IsOutput x it text) (sym (same_bytes source.bytes_before source.bytes_after bytes why.bytes is why.gave.whole)) output))
-  why_complete none bytes text is within output no_read no_write (refusal.Net line) why = absurd (excludes none why.refused (subst (λ (x : List ℕ). IsOutput x it text) (sym (same_bytes source.bytes_before source.bytes_after bytes why.bytes is why.gave.whole)) output))
-  why_complete none bytes text is within output no_read no_write (refusal.Tape line) why = absurd (excludes none why.refused (subst (λ (x : List ℕ). IsOutput x it text) (sym (same_bytes source.bytes_before source.bytes_after bytes why.bytes is why.gave.whole)) output))
-  why_complete none bytes text is within output no_read no_write refusal.Read why = absurd (no_read why.0)
-  why_complete none bytes text is within output no_read no_write refusal.Write why = absurd (no_write why.0)
-  why_complete none bytes text is within output no_read no_write refusal.Memory why = refl
-  why_complete none bytes text is within output no_read no_write refusal.TooLong why = absurd (not_longer most_bytes source.bytes_before source.bytes_after bytes is within why.0)
+  why_complete none exclusive bytes text is within output no_read no_write refusal.Words why = absurd why
+  why_complete none exclusive bytes text is within output no_read no_write (refusal.Document line) why = absurd (excludes none exclusive why.refused (subst (λ (x : List ℕ). IsOutput x it text) (sym (same_bytes source.bytes_before source.bytes_after bytes why.bytes is why.gave.whole)) output))
+  why_complete none exclusive bytes text is within output no_read no_write (refusal.Net line) why = absurd (excludes none exclusive why.refused (subst (λ (x : List ℕ). IsOutput x it text) (sym (same_bytes source.bytes_before source.bytes_after bytes why.bytes is why.gave.whole)) output))
+  why_complete none exclusive bytes text is within output no_read no_write (refusal.Tape line) why = absurd (excludes none exclusive why.refused (subst (λ (x : List ℕ). IsOutput x it text) (sym (same_bytes source.bytes_before source.bytes_after bytes why.bytes is why.gave.whole)) output))
+  why_complete none exclusive bytes text is within output no_read no_write (refusal.Overflow line) why = absurd (excludes none exclusive why.refused (subst (λ (x : List ℕ). IsOutput x it text) (sym (same_bytes source.bytes_before source.bytes_after bytes why.bytes is why.gave.whole)) output))
+  why_complete none exclusive bytes text is within output no_read no_write refusal.Read why = absurd (no_read why.0)
+  why_complete none exclusive bytes text is within output no_read no_write refusal.Write why = absurd (no_write why.0)
+  why_complete none exclusive bytes text is within output no_read no_write refusal.Memory why = refl
+  why_complete none exclusive bytes text is within output no_read no_write refusal.TooLong why = absurd (not_longer most_bytes source.bytes_before source.bytes_after bytes is within why.0)

@@ -1,13 +1,19 @@
 -- What a command prints for the bytes of a document.
-use Rattle.std.specs.Prelude.{◌≡◌, ℕ, List, Ok}
+use Rattle.std.specs.Prelude.{◌≡◌, ◌≤◌, ℕ, List, Ok}
 use Rattle.xm_colours.specs.Allowing.{AllowsAll}
 use Rattle.xm_colours.specs.Family.{colours_at}
 use Rattle.xm_commands.specs.declared.command.Command.{Command}
 use Rattle.xm_commands.specs.declared.command.Command.TheVariants as command
 use Rattle.xm_design.specs.Designed.{Designed, IsDesigned}
+use Rattle.xm_elim.specs.Basis.{IsReducedBasis}
+use Rattle.xm_elim.specs.Elimination.{EndsWith}
+use Rattle.xm_flow.specs.FlowRows.{Flow, IsKept}
+use Rattle.xm_flow.specs.Holding.{IsFlowOf, most_pairs, pair_count, queue_pair_count}
+use Rattle.xm_flow.specs.ValidLemma.{Lemma}
 use Rattle.xm_netlist.specs.Doc.{Doc}
 use Rattle.xm_netlist.specs.Reading.{document_in}
 use Rattle.xm_report.specs.Check.{check_text}
+use Rattle.xm_report.specs.Invariants.{invariant_text}
 use Rattle.xm_tape.specs.Reading.{tape_in}
 use Rattle.xm_tape.specs.Taped.{Taped}
 use Rattle.xm_trace.specs.Text.{IsTextOfRun}
@@ -18,11 +24,26 @@ pub record IsDesignOf (doc : Doc) (design : Designed) : Type 0 where
   pub designed : IsDesigned design
   pub allowed : AllowsAll (colours_at design.colours) doc.allow
 
--- The output of a command for the bytes of a document: of `check` the sizes and colours of its design, and of `run` the
--- text of the run of its tape.
+-- the flow rows of a design that has not too many pairs for them
+pub record HasFlow (design : Designed) (flow : Flow) : Type 0 where
+  pub narrow : pair_count design ≤ most_pairs
+  pub kept : IsKept flow
+  pub is_flow : IsFlowOf design flow
+
+-- what the elimination of the flow rows ends with: a reduced basis of all that they say of packets alone
+pub record AreInvariants (design : Designed) (lemmas : List Lemma) : Type 0 where
+  pub rows : Flow
+  pub has_flow : HasFlow design rows
+  pub left : EndsWith (pair_count design) (queue_pair_count design) rows.rows lemmas
+  pub basis : IsReducedBasis (pair_count design) (queue_pair_count design) rows.rows lemmas
+
+-- The output of a command for the bytes of a document: of `check` the sizes and colours of its design, of `run` the
+-- text of the run of its tape, and of `inv` that of its invariants.
 pub data IsOutput (bytes : List ℕ) : Command → List ℕ → Type 0 where
   of_check : (doc : Doc) (design : Designed) → document_in bytes ≡ Ok doc → IsDesignOf doc design
       → IsOutput bytes command.Check (check_text doc.names design)
   of_run : (doc : Doc) (design : Designed) (tape : Taped) (text : List ℕ) → document_in bytes ≡ Ok doc
       → IsDesignOf doc design → tape_in doc.net doc.tape ≡ Ok tape → IsTextOfRun doc.net doc.names tape text
       → IsOutput bytes command.Run text
+  of_inv : (doc : Doc) (design : Designed) (lemmas : List Lemma) → document_in bytes ≡ Ok doc → IsDesignOf doc design
+      → AreInvariants design lemmas → IsOutput bytes command.Inv (invariant_text doc.names design lemmas)

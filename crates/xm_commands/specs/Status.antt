@@ -19,6 +19,7 @@ status_of (refusal.Net line) = 4
 status_of (refusal.Tape line) = 5
 status_of refusal.Read = 6
 status_of refusal.Write = 7
+status_of (refusal.Overflow line) = 8
 status_of refusal.Memory = 9
 status_of refusal.TooLong = 10
 
@@ -29,17 +30,19 @@ line_of (refusal.Net line) = line.items
 line_of (refusal.Tape line) = line.items
 line_of refusal.Read = codes "read\n"
 line_of refusal.Write = codes "write\n"
+line_of (refusal.Overflow line) = line.items
 line_of refusal.Memory = codes "memory\n"
 line_of refusal.TooLong = codes "too long\n"
 
 -- the statuses that there are
 abbrev pub is_status : ℕ → Bool
 is_status n =
-    (n == 0) || (n == 2) || (n == 3) || (n == 4) || (n == 5) || (n == 6) || (n == 7) || (n == 9) || (n == 10)
+    (n == 0) || (n == 2) || (n == 3) || (n == 4) || (n == 5) || (n == 6) || (n == 7) || (n == 8) || (n == 9)
+    || (n == 10)
 
--- the statuses of a document, its net and its tape
+-- the statuses of a document, its net, its tape and its invariants
 abbrev pub is_of_input : ℕ → Bool
-is_of_input n = (n == 3) || (n == 4) || (n == 5)
+is_of_input n = (n == 3) || (n == 4) || (n == 5) || (n == 8)
 
 -- the statuses whose line of error is always the same, and that line
 pub data IsPlainLine : ℕ → List ℕ → Type 0 where

@@ -13,6 +13,7 @@ ghost use Rattle.xm_commands.specs.Inner.WhyEnded.{HasAnswered, change};
 ghost use Rattle.xm_commands.specs.declared.command.Command.TheVariants as command;
 
 use crate::command::Command;
+use crate::invariants::write_invariants;
 use crate::prepared::{Prepared, prepare};
 use crate::refusal::Refusal;
 use crate::running::write_run;
@@ -72,10 +73,12 @@ fn answer_prepared<K: Sink>(
     match command {
         Command::Check => write_check(alloc, prepared, out),
         Command::Run => answer_run(alloc, prepared, out),
+        Command::Inv => write_invariants(alloc, prepared, out),
     }
 }
 
-/// Writes the command's output for the bytes. A refusal for the document, its net or its tape leaves `out`.
+/// Writes the command's output for the bytes. A refusal for the document, its net, its tape or its invariants
+/// leaves `out`.
 pub fn answer<K: Sink>(
     alloc: Global,
     command: Command,

@@ -8,11 +8,12 @@ use xm_io::Words;
 use xm_model::OutOfMemory;
 use xm_options::read_options;
 
-/// What the program does: print the sizes and colours of a net, or the run of its tape.
+/// What the program does: print the sizes and colours of a net, the run of its tape, or its invariants.
 #[derive(Clone, Copy, PartialEq, Eq, Debug)]
 pub enum Command {
     Check,
     Run,
+    Inv,
 }
 
 fn named(word: &[u8]) -> Option<Command>
@@ -22,6 +23,8 @@ fn named(word: &[u8]) -> Option<Command>
         Some(Command::Check)
     } else if word == b"run".as_slice() {
         Some(Command::Run)
+    } else if word == b"inv".as_slice() {
+        Some(Command::Inv)
     } else {
         None
     }

@@ -1,7 +1,10 @@
 //! Laws over the definitions. A caller has each as the clause of a call.
 
 ghost use Rattle.xm_commands.specs.OneAnswer.{NoOutputOfRefused, OneOutput, OneRefusal};
+ghost use Rattle.xm_commands.specs.PrintedInvariants.{PrintedHold};
 
+use xm_elim::{ends_exclude, one_end, one_overflow};
+use xm_flow::lemmas_hold;
 use xm_order::{no_loop, one_run};
 
 /// A command has at most one output for given bytes.
@@ -9,6 +12,7 @@ pub fn one_output()
     ensures { OneOutput }
 {
     one_run();
+    one_end();
 }
 
 /// Bytes that a command refuses have no output.
@@ -16,6 +20,7 @@ pub fn no_output_of_refused()
     ensures { NoOutputOfRefused }
 {
     no_loop();
+    ends_exclude();
 }
 
 /// Two refusals of the same bytes by the same command have the same status, and the same line but for which loop is
@@ -24,4 +29,12 @@ pub fn one_refusal()
     ensures { OneRefusal }
 {
     no_loop();
+    one_overflow();
+}
+
+/// Each invariant that `inv` prints for a document holds at each state of each run of its net.
+pub fn printed_invariants_hold()
+    ensures { PrintedHold }
+{
+    lemmas_hold();
 }

@@ -4,6 +4,7 @@
 
 mod answer;
 mod command;
+mod invariants;
 mod laws;
 mod prepared;
 mod refusal;
@@ -12,6 +13,6 @@ mod top;
 mod writing;
 
 pub use command::Command;
-pub use laws::{no_output_of_refused, one_output, one_refusal};
+pub use laws::{no_output_of_refused, one_output, one_refusal, printed_invariants_hold};
 pub use refusal::{Refusal, refuse};
 pub use top::plain;

@@ -14,10 +14,12 @@ pub enum Refusal {
     Words,
     /// The bytes are no document: the line of its first fault.
     Document(Text),
-    /// The net is not well wired, has a colour that is not allowed, or has a loop: the line of that.
+    /// The net is not well wired, has a colour that is not allowed, has a loop, or is too wide: the line of that.
     Net(Text),
     /// The tape has a fault: its line.
     Tape(Text),
+    /// The elimination of the moves left 128 bits: the line of that.
+    Overflow(Text),
     /// A call of the source failed.
     Read,
     /// A call of the output failed.
@@ -41,7 +43,10 @@ fn line(refusal: &Refusal) -> &[u8]
 {
     match refusal {
         Refusal::Words => b"words\n",
-        Refusal::Document(line) | Refusal::Net(line) | Refusal::Tape(line) => line.as_bytes(),
+        Refusal::Document(line)
+        | Refusal::Net(line)
+        | Refusal::Tape(line)
+        | Refusal::Overflow(line) => line.as_bytes(),
         Refusal::Read => b"read\n",
         Refusal::Write => b"write\n",
         Refusal::Memory => b"memory\n",
@@ -59,6 +64,7 @@ fn status(refusal: &Refusal) -> u8
         Refusal::Tape(_) => 5,
         Refusal::Read => 6,
         Refusal::Write => 7,
+        Refusal::Overflow(_) => 8,
         Refusal::Memory => 9,
         Refusal::TooLong => 10,
     }

@@ -12,6 +12,7 @@ use crate::answer::answer;
 use crate::command::{Command, read_command};
 use crate::refusal::{Refusal, refuse};
 use std::alloc::Global;
+use xm_elim::ends_exclude;
 use xm_io::{ReadFault, Sink, Source, Words, read_all};
 use xm_model::OutOfMemory;
 use xm_order::no_loop;
@@ -56,10 +57,11 @@ fn obey_words<S: Source, K: Sink>(
 
 /// The call that does all that the program does. It answers the status: 0 where the command's output was
 /// written whole; 2 where the words are no command; 3 where the source's bytes are no document; 4 where
-/// the net is not well wired, has a colour that is not allowed or has a loop of its signals; 5 where the
-/// tape has a fault; 6 where the source failed; 7 where the output failed; 9 for want of memory; 10 where
-/// there are more than 16 MiB. Each status but 0 writes its line to `err`, whose faults change no status.
-/// The source's faults rise with status 6 alone, and the output's with 7 alone.
+/// the net is not well wired, has a colour that is not allowed, has a loop of its signals, or for `inv` is
+/// too wide; 5 where the tape has a fault; 6 where the source failed; 7 where the output failed; 8 where the
+/// elimination for `inv` leaves 128 bits; 9 for want of memory; 10 where there are more than 16 MiB. Each
+/// status but 0 writes its line to `err`, whose faults change no status. The source's faults rise with
+/// status 6 alone, and the output's with 7 alone.
 pub fn plain<S: Source, K: Sink, E: Sink>(
     alloc: Global,
     words: &Words,
@@ -97,6 +99,7 @@ pub fn plain<S: Source, K: Sink, E: Sink>(
         → Tells result (E.held err.old) (E.held err.new) (E.faults err.old) (E.faults err.new) }
 {
     no_loop();
+    ends_exclude();
     match obey_words(alloc, words, source, out) {
         Ok(()) => 0,
         Err(refusal) => refuse(err, &refusal),

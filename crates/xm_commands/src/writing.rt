@@ -15,6 +15,19 @@ use xm_io::{Failed, Sink, write_all};
 use xm_model::{OutOfMemory, Text};
 use xm_report::check_text;
 
+/// Writes these bytes.
+pub fn write_bytes<K: Sink>(out: &mut K, bytes: &[u8]) -> Result<(), Refusal>
+    ensures whole { OnOk result (Appends (K.held out.old) (K.held out.new) bytes.now) }
+    ensures front { OnErr result (AppendsFront (K.held out.old) (K.held out.new) bytes.now) }
+    ensures cause { HasCause (K.faults out.old) (K.faults out.new) result }
+    ensures only { IfErr result (λ refusal. refusal ≡ Refusal.Write) }
+{
+    match write_all(out, bytes) {
+        Ok(()) => Ok(()),
+        Err(Failed) => Err(Refusal::Write),
+    }
+}
+
 /// Writes a text.
 pub fn write_text<K: Sink>(out: &mut K, text: &Text) -> Result<(), Refusal>
     ensures whole { OnOk result (Appends (K.held out.old) (K.held out.new) text.now.items) }
@@ -22,10 +35,7 @@ pub fn write_text<K: Sink>(out: &mut K, text: &Text) -> Result<(), Refusal>
     ensures cause { HasCause (K.faults out.old) (K.faults out.new) result }
     ensures only { IfErr result (λ refusal. refusal ≡ Refusal.Write) }
 {
-    match write_all(out, text.as_bytes()) {
-        Ok(()) => Ok(()),
-        Err(Failed) => Err(Refusal::Write),
-    }
+    write_bytes(out, text.as_bytes())
 }
 
 /// Writes the text of the check.

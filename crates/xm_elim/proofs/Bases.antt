@@ -1,12 +1,11 @@
 -- What the elimination leaves is a reduced basis.
-use Rattle.std.proofs.Common.{ℕ, ◌+◌, List, length, slice_get, Some, refl, sym, ◌∙◌, ap, subst, ◌≡◌, pos, arith}
+use Rattle.std.proofs.Common.{ℕ, ◌+◌, ◌≤◌, List, length, slice_get, Some, refl, sym, ◌∙◌, ap, ◌≡◌, pos, arith}
 use Rattle.xm_flow.specs.ValidLemma.{IsValid, Lemma}
 use Rattle.xm_rows.specs.Points.{FirstFactorIsPositive, GivesBackPoints, KeepsPoints}
-use Rattle.xm_rows.specs.Row.{SparseRow}
+use Rattle.xm_rows.specs.Row.{SparseRow, coefficient}
 use Rattle.xm_elim.specs.Basis.{AreOver, IsConsistent, IsReducedBasis}
 use Rattle.xm_elim.specs.Elimination.{Eliminates, Reaches, begun_from}
-use Rattle.xm_elim.specs.Inner.Places.{AreGathered, Leads}
-use Rattle.xm_elim.proofs.Gathering.{eliminated}
+use Rattle.xm_elim.specs.Inner.Places.{Leads}
 use Rattle.xm_elim.specs.declared.work.Status.TheVariants.{Pivot}
 use Rattle.xm_elim.specs.declared.work.Working.{Working}
 use Rattle.xm_elim.proofs.Beginning.{begun_shaped}
@@ -44,7 +43,11 @@ rows_lead first moves counts flow rows lent over reaches is j w k at =
     let shaped = reaches_shaped first moves (base + length flow) base (begun_from base 0 flow) rows reaches (begun_shaped moves base flow over) in
     shaped.leads j w k (sym (ap (λ (l : List Working). slice_get l j) is) ∙ at)
 
-pub eliminated_lent : (moves counts : ℕ) (flow : List SparseRow) (rows lent : List Working) (lemmas : List Lemma) → Reaches moves (begun_from (moves + counts) 0 flow) (moves + counts) rows → lent ≡ rows →
-    AreGathered moves counts lent counts lemmas → Eliminates moves counts flow lemmas
-eliminated_lent moves counts flow rows lent lemmas reaches is h =
-    eliminated moves counts flow rows lemmas reaches (subst (λ (l : List Working). AreGathered moves counts l counts lemmas) is h)
+-- and no row has an entry past the last factor's column
+pub rows_bounded : FirstFactorIsPositive → (moves counts : ℕ) (flow : List SparseRow) (rows lent : List Working) → AreOver (moves + counts) flow →
+    Reaches moves (begun_from (moves + counts) 0 flow) (moves + counts) rows → lent ≡ rows →
+    (j : ℕ) (w : Working) (k : ℕ) → slice_get lent j ≡ Some w → (moves + counts) + length flow ≤ k → coefficient w.row.entries k ≡ pos 0
+rows_bounded first moves counts flow rows lent over reaches is j w k at high =
+    let base = moves + counts in
+    let shaped = reaches_shaped first moves (base + length flow) base (begun_from base 0 flow) rows reaches (begun_shaped moves base flow over) in
+    shaped.bounded j w k (sym (ap (λ (l : List Working). slice_get l j) is) ∙ at) high

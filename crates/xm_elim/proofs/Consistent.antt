@@ -9,7 +9,7 @@ use Rattle.xm_flow.specs.FlowRows.{Flow, IsKept, columns}
 use Rattle.xm_flow.specs.Holding.{FlowHolds, IsFlowOf, column_value, pair_count, point, queue_pair_count}
 use Rattle.xm_rows.specs.Row.{SparseRow}
 use Rattle.xm_elim.specs.Basis.{AreOver, IsConsistent}
-use Rattle.xm_elim.specs.Elimination.{MeetsOverflow}
+use Rattle.xm_elim.specs.Elimination.{ElimOverflows}
 
 nothing : Signals
 nothing = record { offer = λ c. None; ready = λ c. false }
@@ -29,7 +29,7 @@ over it flow lent of kept is moves counts moves_is counts_is =
     let same : moves + counts ≡ pair_count it + queue_pair_count it = ap₂ ◌+◌ (moves_is ∙ of.moves) (counts_is ∙ of.counts) in
     subst (AreOver (moves + counts)) (sym is) (subst (λ (n : ℕ). AreOver n flow.rows) (sym same) (record { rows = kept.rows; within = rows_within it flow.rows of.rows }))
 
-pub meets_as : (m n c d : ℕ) (f g : List SparseRow) (r s : SparseRow) (column : ℕ) → m ≡ n → c ≡ d → f ≡ g → MeetsOverflow n d g r s column → MeetsOverflow m c f r s column
+pub meets_as : (m n c d : ℕ) (f g : List SparseRow) (r s : SparseRow) (column : ℕ) → m ≡ n → c ≡ d → f ≡ g → ElimOverflows n d g r s column → ElimOverflows m c f r s column
 meets_as m n c d f g r s column is_m is_c is_f h =
-    subst (λ (x : ℕ). MeetsOverflow x c f r s column) (sym is_m)
-    (subst (λ (x : ℕ). MeetsOverflow n x f r s column) (sym is_c) (subst (λ (x : List SparseRow). MeetsOverflow n d x r s column) (sym is_f) h))
+    subst (λ (x : ℕ). ElimOverflows x c f r s column) (sym is_m)
+    (subst (λ (x : ℕ). ElimOverflows n x f r s column) (sym is_c) (subst (λ (x : List SparseRow). ElimOverflows n d x r s column) (sym is_f) h))

@@ -3,14 +3,15 @@ use Rattle.std.proofs.Common.{◌≡◌, ◌≢◌, ℕ, zero, suc, ◌+◌, ◌
 use Rattle.std.proofs.lemmas.Bool.{cases_eq, cases_order}
 use Rattle.xm_rows.specs.Lemmas.Unique.{never_both}
 use Rattle.xm_rows.specs.Combination.{Overflows}
+use Rattle.xm_flow.specs.ValidLemma.{Lemma}
 use Rattle.xm_rows.specs.Row.{SparseRow, coefficient}
-use Rattle.xm_elim.specs.Elimination.{ExclusiveEnds, IsFirstOverflow, IsPivot, Reaches, Replaced, Step, after, begin, begun_from, cancelled, more, passed, pivoted, stays}
+use Rattle.xm_elim.specs.Elimination.{Eliminates, MeetsOverflow, IsFirstOverflow, IsPivot, Reaches, Replaced, Step, after, begin, begun_from, cancelled, more, passed, pivoted, stays}
 use Rattle.xm_elim.specs.declared.work.Status.{Status}
 use Rattle.xm_elim.specs.declared.work.Working.{Working}
 use Rattle.xm_elim.proofs.Passing.{same_item, same_place}
 use Rattle.xm_rows.specs.Lemmas.Unique.{one_cancelled}
 
-one_pivot : (rows : List Working) (column i j : ℕ) (w v : Working) → IsPivot rows column i w → IsPivot rows column j v → i ≡ j
+pub one_pivot : (rows : List Working) (column i j : ℕ) (w v : Working) → IsPivot rows column i w → IsPivot rows column j v → i ≡ j
 one_pivot rows column i j w v p q =
     elim (cases_order i j) [
       | inl same ↦ same
@@ -39,7 +40,7 @@ one_replaced column pivot v n m nonzero (cancelled taken status row c) (stays ou
 one_replaced column pivot v n m nonzero (cancelled taken status row c) (cancelled again other_status other_row d) =
     working_is n m (one_cancelled v.row pivot column n.row m.row nonzero row other_row c d) (status ∙ sym other_status)
 
-same_list : {X : Type 0} (xs ys : List X) → length xs ≡ length ys → ((i : ℕ) (x y : X) → slice_get xs i ≡ Some x → slice_get ys i ≡ Some y → x ≡ y) → xs ≡ ys
+pub same_list : {X : Type 0} (xs ys : List X) → length xs ≡ length ys → ((i : ℕ) (x y : X) → slice_get xs i ≡ Some x → slice_get ys i ≡ Some y → x ≡ y) → xs ≡ ys
 same_list [] [] len h = refl
 same_list [] (y ∷ ys) len h = absurd (omega arith)
 same_list (x ∷ xs) [] len h = absurd (omega arith)
@@ -66,20 +67,20 @@ one_step moves column rows next other (pivoted i w pivot whole at others) (pivot
           one_replaced column w.row u.0 x y pivot.candidate.entry first (subst (λ (z : Working). Replaced column z.row u.0 y) (sym v_is) last)
     ])
 
-one_reaches : (moves column : ℕ) (start rows others : List Working) → Reaches moves start column rows → Reaches moves start column others → rows ≡ others
+pub one_reaches : (moves column : ℕ) (start rows others : List Working) → Reaches moves start column rows → Reaches moves start column others → rows ≡ others
 one_reaches moves zero start rows others begin begin = refl
 one_reaches moves (suc column) start next others (more {rows = rows} before step) (more {rows = again} earlier other) =
     let same = one_reaches moves column start rows again before earlier in
     one_step moves column rows next others step (subst (λ (l : List Working). Step moves column l others) (sym same) other)
 
 -- the rows before a column that was passed
-record Before (moves column : ℕ) (start : List Working) : Type 0 where
-  rows : List Working
-  next : List Working
-  reaches : Reaches moves start column rows
-  step : Step moves column rows next
+pub record Before (moves column : ℕ) (start : List Working) : Type 0 where
+  pub rows : List Working
+  pub next : List Working
+  pub reaches : Reaches moves start column rows
+  pub step : Step moves column rows next
 
-before_column : (moves column base : ℕ) (start rows : List Working) → column < base → Reaches moves start base rows → Before moves column start
+pub before_column : (moves column base : ℕ) (start rows : List Working) → column < base → Reaches moves start base rows → Before moves column start
 before_column moves column zero start rows below begin = absurd (omega arith)
 before_column moves column (suc base) start next below (more {rows = rows} before step) =
     elim (cases_eq column base) [
@@ -93,7 +94,7 @@ before_column moves column (suc base) start next below (more {rows = rows} befor
       | inr other ↦ before_column moves column base start rows (omega arith) before
     ]
 
-no_overflow : (moves column : ℕ) (rows next : List Working) (r s : SparseRow) → Step moves column rows next → IsFirstOverflow rows column r s → ⊥
+pub no_overflow : (moves column : ℕ) (rows next : List Working) (r s : SparseRow) → Step moves column rows next → IsFirstOverflow rows column r s → ⊥
 no_overflow moves column rows next r s (passed out is) f = out f.i f.pivot f.is_pivot.at f.is_pivot.candidate
 no_overflow moves column rows next r s (pivoted i w pivot whole at others) f =
     let same = one_pivot rows column f.i i f.pivot w f.is_pivot pivot in
@@ -107,8 +108,9 @@ no_overflow moves column rows next r s (pivoted i w pivot whole at others) f =
     by_replaced n w (stays out is) nonzero overflows = out f.is_taken
     by_replaced n w (cancelled taken status row c) nonzero overflows = never_both f.taken.row w.row column n.row nonzero c overflows
 
-pub exclusive : ExclusiveEnds
-exclusive moves counts flow lemmas r s column e m =
+pub never_meets : (moves counts : ℕ) (flow : List SparseRow) (lemmas : List Lemma) (r s : SparseRow) (column : ℕ) →
+    Eliminates moves counts flow lemmas → MeetsOverflow moves counts flow r s column → ⊥
+never_meets moves counts flow lemmas r s column e m =
     let b = before_column moves column (moves + counts) (begun_from (moves + counts) 0 flow) e.rows m.before_end e.reaches in
     let same = one_reaches moves column (begun_from (moves + counts) 0 flow) b.rows m.rows b.reaches m.reaches in
     no_overflow moves column b.rows b.next r s b.step (subst (λ (l : List Working). IsFirstOverflow l column r s) (sym same) m.first)

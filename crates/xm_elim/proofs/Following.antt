@@ -199,6 +199,12 @@ places_within base n turned (e ∷ es) up nonzero zeros =
           ]
     ]
 
+-- the parts of a lemma are flow rows
+pub parted_places : (moves counts : ℕ) (flow : List SparseRow) (r : SparseRow) (it : Lemma) → IsParted moves counts r it → IsRow r →
+    ((k : ℕ) → (moves + counts) + length flow ≤ k → coefficient r.entries k ≡ pos 0) → All (λ p. p.flow < length flow) it.parts
+parted_places moves counts flow r it p row bounded =
+    subst (All (λ (q : Part). q.flow < length flow)) (sym p.parts) (places_within (moves + counts) (length flow) (is_negative p.factor) r.entries row.rising row.nonzero bounded)
+
 abs_above : (f : ℤ) → f ≢ pos 0 → pos 0 <ℤ pos (unsigned_abs f)
 abs_above f nonzero = let some = abs_positive f nonzero in omega (arith, ints)
 
@@ -210,7 +216,7 @@ parted_valid moves counts flow r it p row no_moves bounded on_tell on_constant =
     let f = p.factor in
     record {
       positive = subst (λ (z : ℤ). pos 0 <ℤ z) (sym p.scale) (abs_above f p.nonzero);
-      places = subst (All (λ (q : Part). q.flow < length flow)) (sym p.parts) (places_within base (length flow) (is_negative f) r.entries row.rising row.nonzero bounded);
+      places = parted_places moves counts flow r it p row bounded;
       within = p.within;
       no_moves = λ k below.
           weigh k ∙ (signed f (pos 0) (pos 0) (pos 0) (λ t. weighed flow (parts_of base t r.entries) k)

@@ -6,6 +6,7 @@ mod Shaping
 mod Beginning
 mod Spanning
 mod Exclusive
+mod OneEnd
 mod Following
 mod Reducing
 mod Bases

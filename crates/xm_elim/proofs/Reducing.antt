@@ -39,7 +39,7 @@ lead_is k (e ∷ es) up nonzero some zeros =
       ]
     ]
 
-leads_at : (k : ℕ) (es : List Entry) → lead_of es ≡ k → coefficient es k ≢ pos 0 → ((e : Entry) (rest : List Entry) → es ≡ e ∷ rest → pos 0 <ℤ e.value) → LeadsAt k es
+pub leads_at : (k : ℕ) (es : List Entry) → lead_of es ≡ k → coefficient es k ≢ pos 0 → ((e : Entry) (rest : List Entry) → es ≡ e ∷ rest → pos 0 <ℤ e.value) → LeadsAt k es
 unfolding lead_of
 leads_at k [] is some positive = absurd (some refl)
 leads_at k (e ∷ es) is some positive = (is, positive e es refl)

@@ -16,10 +16,11 @@ pub record IsReducedList (rows : List SparseRow) : Type 0 where
   pub lead : ℕ → ℕ
   pub leads : (i : ℕ) (r : SparseRow) → slice_get rows i ≡ Some r → LeadsAt (lead i) r.entries
   pub rise : (i j : ℕ) → i < j → j < length rows → lead i < lead j
-  pub alone : (i j : ℕ) (r : SparseRow) → i < length rows → j ≢ i → slice_get rows j ≡ Some r → coefficient r.entries (lead i) ≡ pos 0
+  pub alone : (i j : ℕ) (r : SparseRow) → i < length rows → j ≢ i → slice_get rows j ≡ Some r →
+      coefficient r.entries (lead i) ≡ pos 0
   pub lowest : (i : ℕ) (r : SparseRow) → slice_get rows i ≡ Some r → IsRowDivisor 1 r
 
--- moves with which the packets n, taken a positive number of times, solve every flow row with its constant taken as often
+-- moves with which the packets n, taken a positive number of times, solve each flow row with its constant as often
 pub record Solution (moves counts : ℕ) (flow : List SparseRow) (n : ℕ → ℤ) : Type 0 where
   pub times : ℕ
   pub positive : 0 < times

@@ -1,13 +1,14 @@
 -- The elimination of moves from flow rows, column by column, and then of packets among what is left.
--- Columns of working rows are those of moves, from 0, then those of packets, and then one for each flow row: its factor.
-use Rattle.std.specs.Prelude.{◌≡◌, ◌≢◌, ℕ, zero, suc, ◌+◌, ◌-◌, ◌<◌, ◌≤◌, Bool, List, [], ◌∷◌, ◌++◌, length, slice_get, Some, cond, nat_lt, ℤ, pos, neg_ℤ, ◌*ℤ◌, ◌<ℤ◌, unsigned_abs, All}
+-- Columns of working rows are those of moves, from 0, those of packets, and then one for each flow row: its factor.
+use Rattle.std.specs.Prelude.{◌≡◌, ◌≢◌, ◌⊎◌, ℕ, zero, suc, ◌+◌, ◌-◌, ◌<◌, ◌≤◌, Bool, List, [], ◌∷◌, ◌++◌, length, slice_get, Some, cond, nat_lt, ℤ, pos, neg_ℤ, ◌*ℤ◌, ◌<ℤ◌, unsigned_abs, All}
 use Rattle.std.specs.Int.{is_negative}
-use Rattle.xm_flow.specs.ValidLemma.{Lemma}
+use Rattle.xm_flow.specs.ValidLemma.{Lemma, TestFits}
 use Rattle.xm_flow.specs.declared.invariant.Part.{Part}
 use Rattle.xm_rows.specs.Combination.{IsCancelled, Overflows}
 use Rattle.xm_rows.specs.Divisor.{IsRowDivisor}
 use Rattle.xm_rows.specs.Row.{IsRow, SparseRow, coefficient}
 use Rattle.xm_rows.specs.declared.row.Entry.{Entry}
+use Rattle.xm_elim.specs.Basis.{AreOver}
 use Rattle.xm_elim.specs.declared.fault.ElimFault.{ElimFault}
 use Rattle.xm_elim.specs.declared.fault.ElimFault.TheVariants as fault
 use Rattle.xm_elim.specs.declared.work.Status.{Status}
@@ -35,8 +36,10 @@ pub record IsCandidate (column : ℕ) (w : Working) : Type 0 where
 pub record IsPivot (rows : List Working) (column i : ℕ) (w : Working) : Type 0 where
   pub at : slice_get rows i ≡ Some w
   pub candidate : IsCandidate column w
-  pub fewest : (j : ℕ) (v : Working) → slice_get rows j ≡ Some v → IsCandidate column v → length w.row.entries ≤ length v.row.entries
-  pub first : (j : ℕ) (v : Working) → j < i → slice_get rows j ≡ Some v → IsCandidate column v → length w.row.entries < length v.row.entries
+  pub fewest : (j : ℕ) (v : Working) → slice_get rows j ≡ Some v → IsCandidate column v →
+      length w.row.entries ≤ length v.row.entries
+  pub first : (j : ℕ) (v : Working) → j < i → slice_get rows j ≡ Some v → IsCandidate column v →
+      length w.row.entries < length v.row.entries
 
 -- the row works, and has an entry in the column
 pub record IsTaken (column : ℕ) (v : Working) : Type 0 where
@@ -46,7 +49,8 @@ pub record IsTaken (column : ℕ) (v : Working) : Type 0 where
 -- what another row becomes: its cancel with the pivot, where it is taken
 pub data Replaced (column : ℕ) (pivot : SparseRow) (v next : Working) : Type 0 where
   stays : (IsTaken column v → ⊥) → next ≡ v → Replaced column pivot v next
-  cancelled : IsTaken column v → next.status ≡ v.status → IsRow next.row → IsCancelled v.row pivot column next.row → Replaced column pivot v next
+  cancelled : IsTaken column v → next.status ≡ v.status → IsRow next.row → IsCancelled v.row pivot column next.row →
+      Replaced column pivot v next
 
 -- what the pivot becomes
 abbrev pub after : ℕ → ℕ → Status
@@ -54,22 +58,27 @@ after moves column = cond (nat_lt column moves) Gone (Pivot column)
 
 -- the rows after a column: as they were where there is no candidate, else each replaced but for the pivot
 pub data Step (moves column : ℕ) (rows next : List Working) : Type 0 where
-  passed : ((j : ℕ) (v : Working) → slice_get rows j ≡ Some v → IsCandidate column v → ⊥) → next ≡ rows → Step moves column rows next
+  passed : ((j : ℕ) (v : Working) → slice_get rows j ≡ Some v → IsCandidate column v → ⊥) → next ≡ rows →
+      Step moves column rows next
   pivoted : (i : ℕ) (w : Working) → IsPivot rows column i w → length next ≡ length rows →
       slice_get next i ≡ Some (record { row = w.row; status = after moves column }) →
-      ((j : ℕ) (v n : Working) → j ≢ i → slice_get rows j ≡ Some v → slice_get next j ≡ Some n → Replaced column w.row v n) →
+      ((j : ℕ) (v n : Working) → j ≢ i → slice_get rows j ≡ Some v → slice_get next j ≡ Some n →
+      Replaced column w.row v n) →
       Step moves column rows next
 
 -- the rows after the first so many columns
 pub data Reaches (moves : ℕ) (start : List Working) : ℕ → List Working → Type 0 where
   begin : Reaches moves start zero start
-  more : {column : ℕ} {rows next : List Working} → Reaches moves start column rows → Step moves column rows next → Reaches moves start (suc column) next
+  more : {column : ℕ} {rows next : List Working} → Reaches moves start column rows → Step moves column rows next →
+      Reaches moves start (suc column) next
 
 -- the pivots of the first so many columns of packets, in the order of their columns
 pub data Pivots (moves : ℕ) (rows : List Working) : ℕ → List SparseRow → Type 0 where
   none : Pivots moves rows zero []
-  without : {n : ℕ} {ps : List SparseRow} → Pivots moves rows n ps → ((i : ℕ) (w : Working) → slice_get rows i ≡ Some w → w.status ≢ Pivot (moves + n)) → Pivots moves rows (suc n) ps
-  with_one : {n : ℕ} {ps : List SparseRow} → Pivots moves rows n ps → (i : ℕ) (r : SparseRow) → slice_get rows i ≡ Some (record { row = r; status = Pivot (moves + n) }) →
+  without : {n : ℕ} {ps : List SparseRow} → Pivots moves rows n ps → ((i : ℕ) (w : Working) →
+      slice_get rows i ≡ Some w → w.status ≢ Pivot (moves + n)) → Pivots moves rows (suc n) ps
+  with_one : {n : ℕ} {ps : List SparseRow} → Pivots moves rows n ps → (i : ℕ) (r : SparseRow) →
+      slice_get rows i ≡ Some (record { row = r; status = Pivot (moves + n) }) →
       Pivots moves rows (suc n) (ps ++ r ∷ [])
 
 -- the factors of a working row, with their signs changed or not
@@ -99,7 +108,8 @@ pub record Eliminates (moves counts : ℕ) (flow : List SparseRow) (lemmas : Lis
   pub pivots : List SparseRow
   pub taken : Pivots moves rows counts pivots
   pub whole : length lemmas ≡ length pivots
-  pub parted : (i : ℕ) (r : SparseRow) (it : Lemma) → slice_get pivots i ≡ Some r → slice_get lemmas i ≡ Some it → IsParted moves counts r it
+  pub parted : (i : ℕ) (r : SparseRow) (it : Lemma) → slice_get pivots i ≡ Some r → slice_get lemmas i ≡ Some it →
+      IsParted moves counts r it
 
 -- what is said of an overflow; want of memory says nothing
 abbrev pub OnOverflow : (SparseRow → SparseRow → ℕ → Type 0) → ElimFault → Type 0
@@ -119,7 +129,8 @@ pub record IsFirstOverflow (rows : List Working) (column : ℕ) (r s : SparseRow
   pub is_taken : IsTaken column taken
   pub is_r : r ≡ taken.row
   pub overflows : Overflows r s column
-  pub earlier : (k : ℕ) (v : Working) → k < j → k ≢ i → slice_get rows k ≡ Some v → IsTaken column v → Overflows v.row s column → ⊥
+  pub earlier : (k : ℕ) (v : Working) → k < j → k ≢ i → slice_get rows k ≡ Some v → IsTaken column v →
+      Overflows v.row s column → ⊥
 
 -- the elimination meets it, after the columns before
 pub record MeetsOverflow (moves counts : ℕ) (flow : List SparseRow) (r s : SparseRow) (column : ℕ) : Type 0 where
@@ -128,6 +139,33 @@ pub record MeetsOverflow (moves counts : ℕ) (flow : List SparseRow) (r s : Spa
   pub before_end : column < moves + counts
   pub first : IsFirstOverflow rows column r s
 
--- an elimination that has an end meets no overflow
+-- the test of a lemma leaves 128 bits, and that of none before it: it counts as a cancel of its pivot r with itself
+pub record FailsTest (moves counts : ℕ) (flow : List SparseRow) (r s : SparseRow) (column : ℕ) : Type 0 where
+  pub lemmas : List Lemma
+  pub ends : Eliminates moves counts flow lemmas
+  pub i : ℕ
+  pub it : Lemma
+  pub at : slice_get lemmas i ≡ Some it
+  pub fails : ¬ TestFits flow it
+  pub earlier : (j : ℕ) (l : Lemma) → j < i → slice_get lemmas j ≡ Some l → TestFits flow l
+  pub is_r : slice_get ends.pivots i ≡ Some r
+  pub is_s : s ≡ r
+  pub place : ℕ
+  pub pivot : slice_get ends.rows place ≡ Some (record { row = r; status = Pivot column })
+
+-- the lemmas are what the elimination leaves, and the test of each stays within 128 bits
+pub record EndsWith (moves counts : ℕ) (flow : List SparseRow) (lemmas : List Lemma) : Type 0 where
+  pub eliminates : Eliminates moves counts flow lemmas
+  pub tested : All (TestFits flow) lemmas
+
+-- the elimination or the test of what it leaves leaves 128 bits
+abbrev pub ElimOverflows : ℕ → ℕ → List SparseRow → SparseRow → SparseRow → ℕ → Type 0
+ElimOverflows moves counts flow r s column = MeetsOverflow moves counts flow r s column
+    ⊎ FailsTest moves counts flow r s column
+
+-- an elimination that has a good end meets no overflow
 abbrev pub ExclusiveEnds : Type 0
-ExclusiveEnds = (moves counts : ℕ) (flow : List SparseRow) (lemmas : List Lemma) (r s : SparseRow) (column : ℕ) → Eliminates moves counts flow lemmas → MeetsOverflow moves counts flow r s column → ⊥
+ExclusiveEnds =
+    (moves counts : ℕ) (flow : List SparseRow) (lemmas : List Lemma) (r s : SparseRow) (column : ℕ) →
+    AreOver (moves + counts) flow →
+    EndsWith moves counts flow lemmas → ElimOverflows moves counts flow r s column → ⊥

@@ -1,3 +1,4 @@
 pub mod Basis
+pub mod Determined
 pub mod Elimination
 pub mod Inner

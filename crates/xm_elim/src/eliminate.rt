@@ -27,11 +27,13 @@ fn after(moves: u32, column: u32) -> Status
     }
 }
 
-/// Eliminates one column. The places of the rows that change are noted for the columns of the pivot.
+/// Eliminates one column. The places of the rows that change are noted for the columns of the pivot. They are put
+/// into a list that is used again.
 fn pass(
     alloc: Global,
     rows: &mut [Working],
     columns: &mut [List<u32>],
+    places: &mut List<u32>,
     moves: u32,
     column: u32,
 ) -> Result<(), ElimFault>
@@ -42,7 +44,8 @@ fn pass(
     ensures covers { OnOk result (Covers rows.new (columns_of columns.new)) }
     ensures overflow { IfErr result (OnOverflow (PassRefused column rows.old)) }
 {
-    let places = places_at(alloc, rows, columns[column as usize].as_slice(), column)?;
+    let noted = columns[column as usize].as_slice();
+    places_at(alloc, rows, noted, column, places)?;
     let Some(pivot) = pivot_of(rows, places.as_slice(), column) else {
         return Ok(());
     };
@@ -59,7 +62,8 @@ pub fn eliminate(alloc: Global, flow: &[Row], moves: u32, counts: u32) -> Result
     requires few { length flow.now < 2 ^ 20 }
     requires narrow { moves + counts < 2 ^ 20 }
     requires within { All (λ r. All (λ e. e.column < moves + counts) r.entries) flow.now }
-    ensures ok { IfOk result (λ it. Reaches moves (begun_from (moves + counts) 0 flow.now) (moves + counts) it.rows.items) }
+    ensures ok { IfOk result (λ it.
+        Reaches moves (begun_from (moves + counts) 0 flow.now) (moves + counts) it.rows.items) }
     ensures covers { IfOk result (λ it. Covers it.rows.items (columns_of it.columns.items)) }
     ensures whole { IfOk result (λ it. length it.columns.items ≡ moves + counts) }
     ensures overflow { IfErr result (OnOverflow (MeetsOverflow moves counts flow.now)) }
@@ -67,9 +71,10 @@ pub fn eliminate(alloc: Global, flow: &[Row], moves: u32, counts: u32) -> Result
     let base = moves + counts;
     let mut rows = begin(alloc, flow, base)?;
     let mut columns = columns_by(alloc, rows.as_slice(), base)?;
+    let mut places = List::new(alloc);
     for column in 0..base {
         let (rows, columns) = (rows.as_mut_slice(), columns.as_mut_slice());
-        if let Err(fault) = pass(alloc, rows, columns, moves, column) {
+        if let Err(fault) = pass(alloc, rows, columns, &mut places, moves, column) {
             return Err(fault);
         }
     }

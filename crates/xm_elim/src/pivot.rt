@@ -1,6 +1,6 @@
 //! The rows of a column, and which of them is the pivot.
 
-ghost use Rattle.std.specs.Prelude.{◌≡◌, ◌<◌, ◌^◌, ℕ, ◌∷◌, [], ◌++◌, length, slice_get, All, List as Items, IfNone, IfOk, IfSome};
+ghost use Rattle.std.specs.Prelude.{◌≡◌, ◌<◌, ◌^◌, ℕ, ◌∷◌, [], ◌++◌, length, slice_get, All, List as Items, IfNone, IfSome, OnOk};
 ghost use Rattle.xm_elim.specs.Elimination.{IsCandidate, IsPivot, IsTaken};
 ghost use Rattle.xm_elim.specs.Inner.Columns.{AreTakenOf};
 ghost use Rattle.xm_model.specs.Membership.{IsIn};
@@ -12,41 +12,43 @@ use crate::work::{Working, is_candidate, is_taken};
 use std::alloc::Global;
 use xm_model::{List, OutOfMemory};
 
-/// The places among the given ones of rows that work and have an entry in the column. It looks no further into each row
-/// than to the column.
+/// Puts into the list the places among the given ones of rows that work and have an entry in the column. It looks no
+/// further into each row than to the column.
 fn taken_of(
-    alloc: Global,
     rows: &[Working],
     given: &[u32],
     column: u32,
-) -> Result<List<u32>, OutOfMemory>
+    places: &mut List<u32>,
+) -> Result<(), OutOfMemory>
     requires { All (λ p. p < length rows.now) given.now }
-    ensures { IfOk result (λ places. AreTakenOf rows.now column given.now places.items) }
+    ensures { OnOk result (AreTakenOf rows.now column given.now places.new.items) }
 {
-    let mut places = List::new(alloc);
+    places.truncate(0);
     for p in given {
         if is_taken(&rows[*p as usize], column) {
             places.push(*p)?;
         }
     }
-    Ok(places)
+    Ok(())
 }
 
-/// The places of the rows that work and have an entry in the column, rising, by those that are noted for it.
+/// Puts into the list the places of the rows that work and have an entry in the column, rising, by those that are
+/// noted for it.
 pub fn places_at(
     alloc: Global,
     rows: &[Working],
     noted: &[u32],
     column: u32,
-) -> Result<List<u32>, OutOfMemory>
+    places: &mut List<u32>,
+) -> Result<(), OutOfMemory>
     requires few { length rows.now < 2 ^ 20 }
     requires within { All (λ p. p < length rows.now) noted.now }
     requires covers { (j : ℕ) (w : Working) → slice_get rows.now j ≡ Some w → IsTaken column w → IsIn noted.now j }
-    ensures { IfOk result (λ places. ArePlaces rows.now column places.items) }
+    ensures { OnOk result (ArePlaces rows.now column places.new.items) }
 {
-    let places = taken_of(alloc, rows, noted, column)?;
-    let rising = in_order(alloc, places)?;
-    Ok(rising)
+    taken_of(rows, noted, column, places)?;
+    in_order(alloc, places)?;
+    Ok(())
 }
 
 /// How many entries the row has.
@@ -60,7 +62,8 @@ fn size(it: &Working) -> usize
 fn better(rows: &[Working], best: Option<u32>, p: u32, column: u32) -> Option<u32>
     requires within { p < length rows.now }
     requires place { IsPlace (length rows.now) best }
-    ensures best { (places : Items ℕ) → IsBest rows.now column places best → All (λ j. j < p) places → IsBest rows.now column (places ++ p ∷ []) result }
+    ensures best { (places : Items ℕ) → IsBest rows.now column places best → All (λ j. j < p) places →
+        IsBest rows.now column (places ++ p ∷ []) result }
     ensures place { IsPlace (length rows.now) result }
 {
     let next = &rows[p as usize];

@@ -1,7 +1,8 @@
 //! Places in rising order, each once.
 
-ghost use Rattle.std.specs.Prelude.{◌≡◌, ◌<◌, ◌^◌, ℕ, All, IfOk, OnOk};
+ghost use Rattle.std.specs.Prelude.{◌≡◌, ◌<◌, ◌^◌, All, IfOk, IsTrue, OnOk};
 ghost use Rattle.std.specs.List.Sorted.{IsNonDecreasing, IsPermutation};
+ghost use Rattle.xm_colours.specs.Family.{Rises};
 ghost use Rattle.xm_elim.specs.Inner.Columns.{IsRisingOf};
 
 use std::alloc::Global;
@@ -24,12 +25,30 @@ fn each_once(alloc: Global, places: &[u32]) -> Result<List<u32>, OutOfMemory>
     Ok(out)
 }
 
-/// The places in rising order, each once.
-pub fn in_order(alloc: Global, mut places: List<u32>) -> Result<List<u32>, OutOfMemory>
-    requires { All (λ p. p < 2 ^ 20) places.items }
-    ensures { IfOk result (λ out. IsRisingOf places.items out.items) }
+fn is_rising(places: &[u32]) -> bool
+    requires { All (λ p. p < 2 ^ 20) places.now }
+    ensures { IsTrue result → Rises places.now }
 {
+    let mut lowest = 0;
+    for p in places {
+        if *p < lowest {
+            return false;
+        }
+        lowest = *p + 1;
+    }
+    true
+}
+
+/// Puts the places in rising order, each once. Most lists have them so.
+pub fn in_order(alloc: Global, places: &mut List<u32>) -> Result<(), OutOfMemory>
+    requires { All (λ p. p < 2 ^ 20) places.old.items }
+    ensures { OnOk result (IsRisingOf places.old.items places.new.items) }
+{
+    if is_rising(places.as_slice()) {
+        return Ok(());
+    }
     places.as_mut_slice().sort_unstable();
     let once = each_once(alloc, places.as_slice())?;
-    Ok(once)
+    *places = once;
+    Ok(())
 }

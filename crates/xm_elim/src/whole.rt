@@ -2,7 +2,7 @@
 
 ghost use Rattle.std.specs.Prelude.{ℕ, IfErr, IfOk, IsErr, map};
 ghost use Rattle.xm_elim.specs.Basis.{IsReducedBasis};
-ghost use Rattle.xm_elim.specs.Elimination.{Eliminates, MeetsOverflow, OnOverflow};
+ghost use Rattle.xm_elim.specs.Elimination.{ElimOverflows, EndsWith, OnOverflow};
 ghost use Rattle.xm_flow.specs.Holding.{IsFlowOf, pair_count, queue_pair_count};
 ghost use Rattle.xm_flow.specs.ValidLemma.{lemma_of};
 ghost use Rattle.xm_rows.specs.Row.{SparseRow};
@@ -16,17 +16,23 @@ use xm_model::List;
 
 /// All that the flow rows of a design say of packets alone: a reduced basis of it, and how each row of the
 /// basis follows from flow rows. `Overflow` comes exactly where the elimination meets a cancellation that
-/// leaves 128 bits, and carries the first such.
+/// leaves 128 bits, and carries the first such. Each row of the basis is then tested as a checker of proofs
+/// tests a lemma: where the factors times the flow rows, added up part by part, or the scale times the row
+/// leave 128 bits, that counts as a cancellation of that pivot's working row with itself.
 pub fn invariants(
     alloc: Global,
     design: &Design,
     rows: &FlowRows,
 ) -> Result<List<Invariant>, ElimFault>
     requires { IsFlowOf design.now rows.now }
-    ensures basis { IfOk result (λ lemmas. IsReducedBasis (pair_count design.now) (queue_pair_count design.now) rows.now.rows (map lemma_of lemmas.items)) }
-    ensures eliminates { IfOk result (λ lemmas. Eliminates (pair_count design.now) (queue_pair_count design.now) rows.now.rows (map lemma_of lemmas.items)) }
-    ensures overflow { IfErr result (OnOverflow (MeetsOverflow (pair_count design.now) (queue_pair_count design.now) rows.now.rows)) }
-    ensures meets { (r s : SparseRow) (column : ℕ) → MeetsOverflow (pair_count design.now) (queue_pair_count design.now) rows.now.rows r s column → IsErr result }
+    ensures basis { let moves = pair_count design.now in let counts = queue_pair_count design.now in
+        IfOk result (λ lemmas. IsReducedBasis moves counts rows.now.rows (map lemma_of lemmas.items)) }
+    ensures ends { let moves = pair_count design.now in let counts = queue_pair_count design.now in
+        IfOk result (λ lemmas. EndsWith moves counts rows.now.rows (map lemma_of lemmas.items)) }
+    ensures overflow { let moves = pair_count design.now in let counts = queue_pair_count design.now in
+        IfErr result (OnOverflow (ElimOverflows moves counts rows.now.rows)) }
+    ensures meets { let moves = pair_count design.now in let counts = queue_pair_count design.now in
+        (r s : SparseRow) (column : ℕ) → ElimOverflows moves counts rows.now.rows r s column → IsErr result }
 {
     flow_holds();
     let _net = design.net();

@@ -27,13 +27,19 @@ pair_number colours p q (Join a b out pass) = refl
 pair_number colours p q (Switch input a b to_a) = refl
 pair_number colours p q (Merge a b out) = refl
 
+pairs-push : (colours : ℕ → List ℕ) (p : ℕ) (ms : List Component) (m : Component) → queue_pairs colours p (ms ++ m ∷ []) ≡ queue_pairs colours p ms ++ queue_pairs_at colours (p + length ms) m
+pairs-push colours p [] m = let same : p ≡ p + 0 = omega arith in append-nil (queue_pairs_at colours p m) ∙ ap (λ q. queue_pairs_at colours q m) same
+pairs-push colours p (x ∷ xs) m =
+    let same : suc p + length xs ≡ p + suc (length xs) = omega arith in
+    ap (λ l. queue_pairs_at colours p x ++ l) (pairs-push colours (suc p) xs m ∙ ap (λ q. queue_pairs colours (suc p) xs ++ queue_pairs_at colours q m) same)
+    ∙ sym (append_assoc (queue_pairs_at colours p x) (queue_pairs colours (suc p) xs) (queue_pairs_at colours (p + suc (length xs)) m))
+
 pub pairs_push : (colours : ℕ → List ℕ) (p : ℕ) (ms : List Component) (m : Component) → length (queue_pairs colours p (ms ++ m ∷ [])) ≡ length (queue_pairs colours p ms) + length (queue_pairs_at colours 0 m)
-pairs_push colours p [] m = let len = length-append (queue_pairs_at colours p m) [] in let same = pair_number colours p 0 m in omega (arith, len, same)
-pairs_push colours p (x ∷ xs) m =
-    let rest = pairs_push colours (suc p) xs m in
-    let one = length-append (queue_pairs_at colours p x) (queue_pairs colours (suc p) (xs ++ m ∷ [])) in
-    let two = length-append (queue_pairs_at colours p x) (queue_pairs colours (suc p) xs) in
-    omega (arith, rest, one, two)
+pairs_push colours p ms m =
+    let all = ap length (pairs-push colours p ms m) in
+    let both = length-append (queue_pairs colours p ms) (queue_pairs_at colours (p + length ms) m) in
+    let same = pair_number colours (p + length ms) 0 m in
+    omega (arith, all, both, same)
 
 pub pairs_more : (colours : ℕ → List ℕ) (ms : List Primitive) (i : ℕ) (d m : Primitive) → i < length ms → m ≡ get_or ms i d →
     length (queue_pairs colours 0 (map component_of (take (i + 1) ms))) ≡ length (queue_pairs colours 0 (map component_of (take i ms))) + length (queue_pairs_at colours 0 (component_of m))
@@ -55,6 +61,15 @@ rows_more colours ms i m within at =
     let taken = length-take-le i ms (omega arith) in
     let number : 0 + length (take i ms) ≡ i = omega (arith, taken) in
     ap (rows_from colours 0) (take_more ms i m within ∙ ap (λ x. take i ms ++ x ∷ []) is) ∙ from_push colours 0 (take i ms) m ∙ ap (λ q. rows_from colours 0 (take i ms) ++ rows_at colours q m) number
+
+pub listed_more : (colours : ℕ → List ℕ) (ms : List Component) (i : ℕ) (m : Component) → i < length ms → slice_get ms i ≡ Some m →
+    queue_pairs colours 0 (take (i + 1) ms) ≡ queue_pairs colours 0 (take i ms) ++ queue_pairs_at colours i m
+listed_more colours ms i m within at =
+    let is : get_or ms i m ≡ m = get_or_from_slice_get ms i m m at in
+    let taken = length-take-le i ms (omega arith) in
+    let number : 0 + length (take i ms) ≡ i = omega (arith, taken) in
+    ap (queue_pairs colours 0) (take_more ms i m within ∙ ap (λ x. take i ms ++ x ∷ []) is) ∙ pairs-push colours 0 (take i ms) m
+    ∙ ap (λ q. queue_pairs colours 0 (take i ms) ++ queue_pairs_at colours q m) number
 
 -- ---- made rows are the flow rows
 

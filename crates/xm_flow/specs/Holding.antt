@@ -30,12 +30,15 @@ abbrev pub count_value : (ℕ → Content) → Column → ℤ
 count_value s (Moves c d) = pos 0
 count_value s (Count q d) = pos (count s q d)
 
--- how many pairs and how many queue pairs a design has
+-- how many pairs and how many queue pairs a design has, and the most pairs with which flow rows are made
 abbrev pub pair_count : Designed → ℕ
 pair_count it = length (pairs (colours_at it.colours) it.net.channels)
 
 abbrev pub queue_pair_count : Designed → ℕ
 queue_pair_count it = length (queue_pairs (colours_at it.colours) 0 it.net.prims)
+
+abbrev pub most_pairs : ℕ
+most_pairs = 4096
 
 -- they are those of the design
 pub record IsFlowOf (it : Designed) (flow : Flow) : Type 0 where

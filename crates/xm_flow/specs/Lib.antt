@@ -2,4 +2,5 @@ pub mod FlowRows
 pub mod Holding
 pub mod Inner
 pub mod Lemmas
+pub mod Slots
 pub mod ValidLemma

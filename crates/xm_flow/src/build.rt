@@ -4,8 +4,8 @@ ghost use Rattle.std.specs.Prelude.{◌≡◌, ◌-◌, ◌≤◌, ◌<◌, ◌^
 ghost use Rattle.xm_colours.specs.Family.{colours_at};
 ghost use Rattle.xm_colours.specs.Pairs.{queue_pairs_at};
 ghost use Rattle.xm_flow.specs.Inner.Building.{AreMade, IsReady};
-ghost use Rattle.xm_flow.specs.FlowRows.{columns, flow_rows};
-ghost use Rattle.xm_flow.specs.Holding.{IsFlowOf, pair_count, queue_pair_count};
+ghost use Rattle.xm_flow.specs.FlowRows.{IsKept, columns, flow_rows};
+ghost use Rattle.xm_flow.specs.Holding.{IsFlowOf, most_pairs, pair_count, queue_pair_count};
 ghost use Rattle.xm_flow.specs.declared.build.FlowFault.TheVariants as fault;
 ghost use Rattle.xm_model.specs.Component.{component_of};
 
@@ -16,6 +16,9 @@ use std::alloc::Global;
 use xm_design::Design;
 use xm_model::{List, OutOfMemory, Prim};
 use xm_rows::Row;
+
+/// The most pairs with which flow rows are made.
+const MOST_PAIRS: u64 = 4096;
 
 /// Why there are no flow rows. `TooWide` carries the number of pairs, which is above 4,096.
 #[derive(Clone, Copy, PartialEq, Eq, Debug)]
@@ -49,7 +52,7 @@ pub(crate) fn pairs_at(design: &Design, prim: &Prim) -> u32
 /// How many queue pairs there are.
 fn counts_of(design: &Design) -> u32
     ensures number { result ≡ queue_pair_count design.now }
-    ensures few { result < 2 ^ 20 - 4096 }
+    ensures few { result < 2 ^ 20 - most_pairs }
 {
     let prims = design.net().prims().as_slice();
     let mut counts = 0;
@@ -75,12 +78,13 @@ fn rows_of(alloc: Global, places: &Places, design: &Design) -> Result<List<Row>,
 /// The flow rows of a design, where it has no more than 4,096 pairs.
 pub fn flow(alloc: Global, design: &Design) -> Result<FlowRows, FlowFault>
     ensures ok { IfOk result (IsFlowOf design.now) }
-    ensures wide { (n : ℕ) → result ≡ Err (fault.TooWide n) → (n ≡ pair_count design.now) × (4096 < n) }
-    ensures narrow { 4096 < pair_count design.now → IsErr result }
+    ensures kept { IfOk result IsKept }
+    ensures wide { (n : ℕ) → result ≡ Err (fault.TooWide n) → (n ≡ pair_count design.now) × (most_pairs < n) }
+    ensures narrow { most_pairs < pair_count design.now → IsErr result }
 {
     let _net = design.net();
     let pairs = design.colours().pairs();
-    if pairs > 4096 {
+    if pairs > MOST_PAIRS {
         return Err(FlowFault::TooWide(pairs));
     }
     let places = places_of(alloc, design)?;

@@ -6,7 +6,7 @@ ghost use Rattle.xm_design.specs.Designed.{Designed, IsDesigned};
 ghost use Rattle.xm_design.specs.Numbers.{IsQueuePair};
 ghost use Rattle.xm_flow.specs.FlowRows.{Count, Moves, columns};
 ghost use Rattle.xm_flow.specs.Inner.Building.{ArePlaces};
-ghost use Rattle.xm_flow.specs.Holding.{queue_pair_count};
+ghost use Rattle.xm_flow.specs.Holding.{most_pairs, queue_pair_count};
 ghost use Rattle.xm_model.specs.Membership.{IsIn};
 
 use std::alloc::Global;
@@ -37,7 +37,7 @@ pub fn places_of(alloc: Global, design: &Design) -> Result<Places, OutOfMemory>
 /// The column of the moves of colour `d` on channel `c`.
 pub fn move_at(places: &Places, design: &Design, c: u32, d: u8) -> u32
     requires places { ArePlaces design.now places.now.below.items places.now.moves }
-    requires narrow { places.now.moves ≤ 4096 }
+    requires narrow { places.now.moves ≤ most_pairs }
     requires channel { c < design.now.net.channels }
     requires colour { IsIn (colours_at design.now.colours c) d }
     ensures { slice_get (columns design.now) result ≡ Some (Moves c d) }
@@ -48,7 +48,7 @@ pub fn move_at(places: &Places, design: &Design, c: u32, d: u8) -> u32
 /// The column of the packets of colour `d` in queue `q`.
 pub fn count_at(places: &Places, design: &Design, q: u32, d: u8) -> u32
     requires places { ArePlaces design.now places.now.below.items places.now.moves }
-    requires narrow { places.now.moves ≤ 4096 }
+    requires narrow { places.now.moves ≤ most_pairs }
     requires few { queue_pair_count design.now < 2 ^ 20 }
     requires pair { IsQueuePair design.now q d }
     ensures { slice_get (columns design.now) result ≡ Some (Count q d) }

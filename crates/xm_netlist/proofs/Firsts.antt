@@ -82,7 +82,7 @@ numbered_by_uses uses = numbers_from (first_uses [] uses) [] uses refl
 pub uses_numbered : (channels colours : List Name) (primitives : List NamedPrimitive) → flat_map channel_uses (map (primitive_numbered channels colours) primitives) ≡ map (number_in channels) (flat_map channels_of primitives)
 uses_numbered channels colours [] = refl
 uses_numbered channels colours (primitive ∷ primitives) =
-    rw (ports_numbered channels colours primitive.name primitive.form, uses_numbered channels colours primitives) (sym (map-append (number_in channels) (channels_of primitive) (flat_map channels_of primitives)))
+    rw (ports_numbered channels colours primitive.name primitive.kind, uses_numbered channels colours primitives) (sym (map-append (number_in channels) (channels_of primitive) (flat_map channels_of primitives)))
 
 -- ---- the names by their first uses
 

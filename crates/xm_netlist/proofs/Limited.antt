@@ -22,7 +22,7 @@ use Rattle.xm_shape.specs.declared.fault.Which.{Which}
 use Rattle.xm_shape.specs.declared.fault.Which.TheVariants as which
 use Rattle.xm_netlist.specs.Lemmas.Lengths.{length-marks_of, length-numbers_below, length-set_each}
 use Rattle.xm_netlist.specs.Numbered.{component_in, images_of, net_of, numbers_below, primitive_numbered, set_each}
-use Rattle.xm_netlist.specs.Checks.{check_all_known, capacity_in, check_queue_size, check_colours, check_entry_colours, form_capacity, check_form_colours, check_queue_packets, check_known, check_sizes, check_offered, check_offers, check_packets, check_primitive_colours, check_room, check_size, check_source_size, check_table}
+use Rattle.xm_netlist.specs.Checks.{check_all_known, capacity_in, check_queue_size, check_colours, check_entry_colours, kind_capacity, check_kind_colours, check_queue_packets, check_known, check_sizes, check_offered, check_offers, check_packets, check_primitive_colours, check_room, check_size, check_source_size, check_table}
 use Rattle.xm_netlist.specs.Valid.{channel_uses}
 use Rattle.xm_netlist.proofs.Passing.{All-back, All-front, both, held}
 
@@ -85,8 +85,8 @@ all_used primitives = among_all channels_of (channel_names primitives) primitive
 
 -- ---- ports
 
-pub ports_numbered : (channels colours : List Name) (name : Name) (form : NamedKind)
-    → channel_uses (component_in channels colours form) ≡ map (number_in channels) (channels_of (record { name = name; form = form }))
+pub ports_numbered : (channels colours : List Name) (name : Name) (kind : NamedKind)
+    → channel_uses (component_in channels colours kind) ≡ map (number_in channels) (channels_of (record { name = name; kind = kind }))
 ports_numbered channels colours name (source out ds mode) = refl
 ports_numbered channels colours name (sink input mode) = refl
 ports_numbered channels colours name (queue input out capacity initial) = refl
@@ -99,7 +99,7 @@ ports_numbered channels colours name (merge a b out) = refl
 ports_within : (channels colours : List Name) (primitive : NamedPrimitive) → All (λ n. is_among channels n ≡ true) (channels_of primitive)
     → All (λ c. c < length channels) (inputs (primitive_numbered channels colours primitive) ++ outputs (primitive_numbered channels colours primitive))
 ports_within channels colours primitive among =
-    rw (ports_numbered channels colours primitive.name primitive.form)
+    rw (ports_numbered channels colours primitive.name primitive.kind)
     (All-map (λ c. c < length channels) (number_in channels) (channels_of primitive) (All-weaker (λ n. is_among channels n ≡ true) (λ n. number_in channels n < length channels) (λ n e. number_below channels n e) (channels_of primitive) among))
 
 -- ---- colours
@@ -152,7 +152,7 @@ within it low high count e =
     let parts = and_parts (nat_le low count) (nat_le count high) (checked (nat_le low count && nat_le count high) _ e) in
     (leb-true low count parts.0, leb-true count high parts.1)
 
-pub small_room : (form : NamedKind) → check_room form ≡ Ok tt → form_capacity form ≤ most_capacity
+pub small_room : (kind : NamedKind) → check_room kind ≡ Ok tt → kind_capacity kind ≤ most_capacity
 small_room (source out ds mode) e = omega arith
 small_room (sink input mode) e = omega arith
 small_room (queue input out capacity initial) e = (within which.Capacity 1 most_capacity capacity e).1
@@ -163,10 +163,10 @@ small_room (switch input a b to_a) e = omega arith
 small_room (merge a b out) e = omega arith
 
 pub all_small : (primitives : List NamedPrimitive) → each_holds check_queue_size primitives ≡ Ok tt → All (λ primitive. capacity_in primitive ≤ most_capacity) primitives
-all_small primitives e = held check_queue_size (λ (primitive : NamedPrimitive). capacity_in primitive ≤ most_capacity) (λ i primitive room. small_room primitive.form room) 0 primitives e
+all_small primitives e = held check_queue_size (λ (primitive : NamedPrimitive). capacity_in primitive ≤ most_capacity) (λ i primitive room. small_room primitive.kind room) 0 primitives e
 
-pub fits : (channels colours : List Name) (path : List ℕ) (form : NamedKind) → check_form_colours colours path form ≡ Ok tt → check_offers form ≡ Ok tt → check_room form ≡ Ok tt → check_packets form ≡ Ok tt
-    → FitsComponent (length colours) (component_in channels colours form)
+pub fits : (channels colours : List Name) (path : List ℕ) (kind : NamedKind) → check_kind_colours colours path kind ≡ Ok tt → check_offers kind ≡ Ok tt → check_room kind ≡ Ok tt → check_packets kind ≡ Ok tt
+    → FitsComponent (length colours) (component_in channels colours kind)
 fits channels colours path (source out ds mode) known_all offers room packets =
     let few = within which.SourceColours 1 most_source_colours (length ds) offers in
     (omega (arith, few.0, length-map ds (number_in colours)), omega (arith, few.1, length-map ds (number_in colours)), all_below colours ds (are_offered colours _ ds ds known_all))
@@ -183,14 +183,14 @@ fits channels colours path (join a b out pass) known_all offers room packets = t
 fits channels colours path (switch input a b to_a) known_all offers room packets = length-marks_of colours to_a
 fits channels colours path (merge a b out) known_all offers room packets = tt
 
-same_capacity : (channels colours : List Name) (form : NamedKind) → capacity_of (component_in channels colours form) ≡ form_capacity form
+same_capacity : (channels colours : List Name) (kind : NamedKind) → capacity_of (component_in channels colours kind) ≡ kind_capacity kind
 same_capacity channels colours (source out ds mode) = refl
 same_capacity channels colours _ = refl
 
 same_capacities : (channels colours : List Name) (primitives : List NamedPrimitive) → sum_by capacity_of (map (primitive_numbered channels colours) primitives) ≡ sum_by capacity_in primitives
 same_capacities channels colours [] = refl
 same_capacities channels colours (primitive ∷ primitives) =
-    rw (sum_by-cons capacity_of (primitive_numbered channels colours primitive) (map (primitive_numbered channels colours) primitives), sum_by-cons capacity_in primitive primitives, same_capacity channels colours primitive.form, same_capacities channels colours primitives) refl
+    rw (sum_by-cons capacity_of (primitive_numbered channels colours primitive) (map (primitive_numbered channels colours) primitives), sum_by-cons capacity_in primitive primitives, same_capacity channels colours primitive.kind, same_capacities channels colours primitives) refl
 
 -- ---- a draft
 
@@ -199,11 +199,11 @@ pub record Limits (draft : NamedNet) : Type 0 where
   pub colours : (1 ≤ length draft.colours) × (length draft.colours ≤ most_colours)
   pub primitives : (1 ≤ length draft.primitives) × (length draft.primitives ≤ most_primitives)
   pub channels : (1 ≤ length (channel_names draft.primitives)) × (length (channel_names draft.primitives) ≤ most_channels)
-  pub sources : All (λ primitive. check_offers primitive.form ≡ Ok tt) draft.primitives
-  pub capacities : All (λ primitive. check_room primitive.form ≡ Ok tt) draft.primitives
+  pub sources : All (λ primitive. check_offers primitive.kind ≡ Ok tt) draft.primitives
+  pub capacities : All (λ primitive. check_room primitive.kind ≡ Ok tt) draft.primitives
   pub small : All (λ primitive. capacity_in primitive ≤ most_capacity) draft.primitives
   pub sum : sum_by capacity_in draft.primitives ≤ most_capacities
-  pub initial : All (λ primitive. check_packets primitive.form ≡ Ok tt) draft.primitives
+  pub initial : All (λ primitive. check_packets primitive.kind ≡ Ok tt) draft.primitives
 
 pub limits : (draft : NamedNet) → check_sizes draft ≡ Ok tt → Limits draft
 unfolding check_sizes
@@ -218,16 +218,16 @@ limits draft e =
       colours = within which.Colours 1 most_colours (length draft.colours) colours.0;
       primitives = within which.Primitives 1 most_primitives (length draft.primitives) primitives.0;
       channels = within which.Channels 1 most_channels (length (channel_names draft.primitives)) channels.0;
-      sources = held check_source_size (λ (primitive : NamedPrimitive). check_offers primitive.form ≡ Ok tt) (λ i primitive h. h) 0 draft.primitives sources.0;
-      capacities = held check_queue_size (λ (primitive : NamedPrimitive). check_room primitive.form ≡ Ok tt) (λ i primitive h. h) 0 draft.primitives capacities.0;
+      sources = held check_source_size (λ (primitive : NamedPrimitive). check_offers primitive.kind ≡ Ok tt) (λ i primitive h. h) 0 draft.primitives sources.0;
+      capacities = held check_queue_size (λ (primitive : NamedPrimitive). check_room primitive.kind ≡ Ok tt) (λ i primitive h. h) 0 draft.primitives capacities.0;
       small = all_small draft.primitives capacities.0;
       sum = (within which.CapacitySum 0 most_capacities (sum_by capacity_in draft.primitives) total.0).1;
-      initial = held check_queue_packets (λ (primitive : NamedPrimitive). check_packets primitive.form ≡ Ok tt) (λ i primitive h. h) 0 draft.primitives total.1;
+      initial = held check_queue_packets (λ (primitive : NamedPrimitive). check_packets primitive.kind ≡ Ok tt) (λ i primitive h. h) 0 draft.primitives total.1;
     }
 
 -- each primitive's lists and maps have known colours, wherever they stand
 abbrev pub IsColoured : List Name → NamedPrimitive → Type 0
-IsColoured colours primitive = (path : List ℕ) × (check_form_colours colours path primitive.form ≡ Ok tt)
+IsColoured colours primitive = (path : List ℕ) × (check_kind_colours colours path primitive.kind ≡ Ok tt)
 
 pub primitives_coloured : (draft : NamedNet) → check_colours draft ≡ Ok tt → All (IsColoured draft.colours) draft.primitives
 unfolding check_colours
@@ -254,6 +254,6 @@ within_limits draft small known_all =
       inputs = All-map (λ m. All (λ c. c < length names) (inputs m)) (primitive_numbered names draft.colours) draft.primitives
           (λ k d lt. All-front (λ c. c < length names) _ (outputs (primitive_numbered names draft.colours (get_or draft.primitives k d))) (ports_within names draft.colours (get_or draft.primitives k d) (among k d lt)));
       primitives = All-map (FitsComponent (length draft.colours)) (primitive_numbered names draft.colours) draft.primitives
-          (λ k d lt. fits names draft.colours (coloured_all k d lt).0 (get_or draft.primitives k d).form (coloured_all k d lt).1 (it.sources k d lt) (it.capacities k d lt) (it.initial k d lt));
+          (λ k d lt. fits names draft.colours (coloured_all k d lt).0 (get_or draft.primitives k d).kind (coloured_all k d lt).1 (it.sources k d lt) (it.capacities k d lt) (it.initial k d lt));
       capacities = omega (arith, same_capacities names draft.colours draft.primitives, it.sum);
     }

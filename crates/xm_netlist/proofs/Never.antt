@@ -22,7 +22,7 @@ use Rattle.xm_shape.specs.declared.fault.Which.TheVariants as which
 use Rattle.xm_netlist.specs.Documented.{doc_of}
 use Rattle.xm_netlist.specs.Numbered.{naming_in, net_of, check_wiring, wiring_fault_of, wiring_from}
 use Rattle.xm_netlist.specs.Reading.{doc_from, document_of, number_net}
-use Rattle.xm_netlist.specs.Checks.{check_all_known, capacity_in, check_queue_size, check_colour_name, check_colours, check_entry_colours, check_form_colours, check_queue_packets, check_known, check_sizes, name_of, check_names, check_offered, check_offers, check_packets, check_primitive_colours, check_primitive_name, check_port_names, check_room, check_size, check_source_size, check_table}
+use Rattle.xm_netlist.specs.Checks.{check_all_known, capacity_in, check_queue_size, check_colour_name, check_colours, check_entry_colours, check_kind_colours, check_queue_packets, check_known, check_sizes, name_of, check_names, check_offered, check_offers, check_packets, check_primitive_colours, check_primitive_name, check_port_names, check_room, check_size, check_source_size, check_table}
 use Rattle.xm_netlist.specs.declared.document.Document.{Document}
 
 -- the step does not find that
@@ -88,7 +88,7 @@ names draft =
     (λ _. all_hold (check_primitive_name draft.primitives) (λ i primitive.
     bind (check (is_name primitive.name) (bad_name (member_of (place_of net i) (codes "name")))) _ (checked (is_name primitive.name) (bad_name (member_of (place_of net i) (codes "name"))) (λ e. cc)) (λ _.
     bind (check (not (is_among (map name_of (take i draft.primitives)) primitive.name)) (same_name (member_of (place_of net i) (codes "name")))) _
-    (checked (not (is_among (map name_of (take i draft.primitives)) primitive.name)) (same_name (member_of (place_of net i) (codes "name"))) (λ e. cc)) (λ _. ports (place_of net i) (ports_of primitive.form)))) 0 draft.primitives)
+    (checked (not (is_among (map name_of (take i draft.primitives)) primitive.name)) (same_name (member_of (place_of net i) (codes "name"))) (λ e. cc)) (λ _. ports (place_of net i) (ports_of primitive.kind)))) 0 draft.primitives)
 
 knows : (colours : List Name) (path : List ℕ) (name : Name) → Spares (check_known colours path name)
 knows colours path name = checked (is_among colours name) (unknown_colour path) (λ e. cc)
@@ -102,36 +102,36 @@ know_table colours path (image ∷ others) =
     bind (check_known colours path image.0) _ (knows colours path image.0) (λ _.
     bind (check_known colours (member_of path image.0) image.1) _ (knows colours (member_of path image.0) image.1) (λ _. know_table colours path others))
 
-know_form : (colours : List Name) (path : List ℕ) (form : NamedKind) → Spares (check_form_colours colours path form)
-know_form colours path (source out ds mode) =
+know_kind : (colours : List Name) (path : List ℕ) (kind : NamedKind) → Spares (check_kind_colours colours path kind)
+know_kind colours path (source out ds mode) =
     all_hold (check_offered colours (member_of path (codes "colours")) ds) (λ i name.
     bind (check_known colours (place_of (member_of path (codes "colours")) i) name) _ (knows colours (place_of (member_of path (codes "colours")) i) name)
     (λ _. checked (not (is_among (take i ds) name)) (same_name (place_of (member_of path (codes "colours")) i)) (λ e. cc))) 0 ds
-know_form colours path (queue input out capacity initial) = know_all colours (member_of path (codes "initial")) initial
-know_form colours path (function input out table) = know_table colours (member_of path (codes "map")) table
-know_form colours path (fork input a b table_a table_b) =
+know_kind colours path (queue input out capacity initial) = know_all colours (member_of path (codes "initial")) initial
+know_kind colours path (function input out table) = know_table colours (member_of path (codes "map")) table
+know_kind colours path (fork input a b table_a table_b) =
     bind (check_table colours (member_of path (codes "map_a")) table_a) _ (know_table colours (member_of path (codes "map_a")) table_a) (λ _. know_table colours (member_of path (codes "map_b")) table_b)
-know_form colours path (switch input a b to_a) = know_all colours (member_of path (codes "to_a")) to_a
-know_form colours path _ = ok tt
+know_kind colours path (switch input a b to_a) = know_all colours (member_of path (codes "to_a")) to_a
+know_kind colours path _ = ok tt
 
 colours : (draft : NamedNet) → Spares (check_colours draft)
 unfolding check_colours
 colours draft =
-    bind (each_holds (check_primitive_colours draft.colours) draft.primitives) _ (all_hold (check_primitive_colours draft.colours) (λ i primitive. know_form draft.colours (place_of net i) primitive.form) 0 draft.primitives)
+    bind (each_holds (check_primitive_colours draft.colours) draft.primitives) _ (all_hold (check_primitive_colours draft.colours) (λ i primitive. know_kind draft.colours (place_of net i) primitive.kind) 0 draft.primitives)
     (λ _. all_hold (check_entry_colours draft.colours) (λ i entry. know_all draft.colours (member_of (codes "allow") entry.channel) entry.colours) 0 draft.allow)
 
 sizes : (it : Which) (low high count : ℕ) → Spares (check_size it low high count)
 sizes it low high count = checked (nat_le low count && nat_le count high) (limit it count) (λ e. cc)
 
-offers : (form : NamedKind) → Spares (check_offers form)
+offers : (kind : NamedKind) → Spares (check_offers kind)
 offers (source out ds mode) = sizes which.SourceColours 1 most_source_colours (length ds)
 offers _ = ok tt
 
-rooms : (form : NamedKind) → Spares (check_room form)
+rooms : (kind : NamedKind) → Spares (check_room kind)
 rooms (queue input out capacity initial) = sizes which.Capacity 1 most_capacity capacity
 rooms _ = ok tt
 
-packets : (form : NamedKind) → Spares (check_packets form)
+packets : (kind : NamedKind) → Spares (check_packets kind)
 packets (queue input out capacity initial) = sizes which.Initial 0 capacity (length initial)
 packets _ = ok tt
 
@@ -141,10 +141,10 @@ limits draft =
     bind (check_size which.Colours 1 most_colours (length draft.colours)) _ (sizes which.Colours 1 most_colours (length draft.colours)) (λ _.
     bind (check_size which.Primitives 1 most_primitives (length draft.primitives)) _ (sizes which.Primitives 1 most_primitives (length draft.primitives)) (λ _.
     bind (check_size which.Channels 1 most_channels (length (channel_names draft.primitives))) _ (sizes which.Channels 1 most_channels (length (channel_names draft.primitives))) (λ _.
-    bind (each_holds check_source_size draft.primitives) _ (all_hold check_source_size (λ i primitive. offers primitive.form) 0 draft.primitives) (λ _.
-    bind (each_holds check_queue_size draft.primitives) _ (all_hold check_queue_size (λ i primitive. rooms primitive.form) 0 draft.primitives) (λ _.
+    bind (each_holds check_source_size draft.primitives) _ (all_hold check_source_size (λ i primitive. offers primitive.kind) 0 draft.primitives) (λ _.
+    bind (each_holds check_queue_size draft.primitives) _ (all_hold check_queue_size (λ i primitive. rooms primitive.kind) 0 draft.primitives) (λ _.
     bind (check_size which.CapacitySum 0 most_capacities (sum_by capacity_in draft.primitives)) _ (sizes which.CapacitySum 0 most_capacities (sum_by capacity_in draft.primitives)) (λ _.
-    all_hold check_queue_packets (λ i primitive. packets primitive.form) 0 draft.primitives))))))
+    all_hold check_queue_packets (λ i primitive. packets primitive.kind) 0 draft.primitives))))))
 
 refused : (naming : Naming) (fault : Option WiringFault) → Spares (refuse (wiring_fault_of naming fault))
 refused naming None = ok tt

@@ -24,7 +24,7 @@ use Rattle.xm_netlist.specs.Doc.{Doc}
 use Rattle.xm_netlist.specs.Documented.{doc_of}
 use Rattle.xm_netlist.specs.Numbered.{component_in, naming_in, net_of, primitive_numbered, check_wiring}
 use Rattle.xm_netlist.specs.Reading.{doc_from, document_of, number_net}
-use Rattle.xm_netlist.specs.Checks.{check_colour_name, check_colours, check_form_colours, check_known, check_sizes, name_of, check_names, check_offered, check_primitive_colours, check_primitive_name, check_port_names}
+use Rattle.xm_netlist.specs.Checks.{check_colour_name, check_colours, check_kind_colours, check_known, check_sizes, name_of, check_names, check_offered, check_primitive_colours, check_primitive_name, check_port_names}
 use Rattle.xm_netlist.specs.Valid.{AreNames, DiffersIn, IsPart, IsValid, are_distinct}
 use Rattle.xm_netlist.specs.declared.document.Document.{Document}
 use Rattle.xm_netlist.proofs.Firsts.{differ_numbers, distinct_by, distinct_uses, formed_uses, numbered_by_uses, uses_numbered}
@@ -81,7 +81,7 @@ are_colours draft e =
 
 record PartNamed (primitives : List NamedPrimitive) (i : ℕ) (primitive : NamedPrimitive) : Type 0 where
   pub name : Named is_name (map name_of (take i primitives)) primitive.name
-  pub ports : check_port_names (place_of net i) (ports_of primitive.form) ≡ Ok tt
+  pub ports : check_port_names (place_of net i) (ports_of primitive.kind) ≡ Ok tt
 
 check_primitive_names : (primitives : List NamedPrimitive) → each_holds (check_primitive_name primitives) primitives ≡ Ok tt → (i : ℕ) (primitive : NamedPrimitive) → slice_get primitives i ≡ Some primitive → PartNamed primitives i primitive
 check_primitive_names primitives e i primitive at =
@@ -117,7 +117,7 @@ uses_formed (primitive ∷ primitives) each = list_all-append is_name (channels_
 are_channels_named : (primitives : List NamedPrimitive) → each_holds (check_primitive_name primitives) primitives ≡ Ok tt → AreNames is_name (channel_names primitives)
 are_channels_named primitives e =
     record {
-      formed = formed_uses is_name [] (flat_map channels_of primitives) refl (uses_formed primitives (λ i primitive at. ports_formed (place_of net i) (ports_of primitive.form) (check_primitive_names primitives e i primitive at).ports));
+      formed = formed_uses is_name [] (flat_map channels_of primitives) refl (uses_formed primitives (λ i primitive at. ports_formed (place_of net i) (ports_of primitive.kind) (check_primitive_names primitives e i primitive at).ports));
       distinct = distinct_uses [] (flat_map channels_of primitives) refl;
     }
 
@@ -130,21 +130,21 @@ source_differs colours path ds e =
     (checked _ (unknown_colour (place_of path i)) tests.0, not-true _ (checked _ (same_name (place_of path i)) tests.1))) in
     (all_by (is_among colours) ds (λ i n at. (at_place i n at).0), distinct_by ds (λ i n at. (at_place i n at).1))
 
-form_differs : (channels colours : List Name) (path : List ℕ) (form : NamedKind) → check_form_colours colours path form ≡ Ok tt → DiffersIn (component_in channels colours form)
-form_differs channels colours path (source out ds mode) e = let facts = source_differs colours (member_of path (codes "colours")) ds e in differ_numbers colours ds facts.0 facts.1
-form_differs channels colours path (sink input mode) e = tt
-form_differs channels colours path (queue input out capacity initial) e = tt
-form_differs channels colours path (function input out table) e = tt
-form_differs channels colours path (fork input a b table_a table_b) e = tt
-form_differs channels colours path (join a b out pass) e = tt
-form_differs channels colours path (switch input a b to_a) e = tt
-form_differs channels colours path (merge a b out) e = tt
+kind_differs : (channels colours : List Name) (path : List ℕ) (kind : NamedKind) → check_kind_colours colours path kind ≡ Ok tt → DiffersIn (component_in channels colours kind)
+kind_differs channels colours path (source out ds mode) e = let facts = source_differs colours (member_of path (codes "colours")) ds e in differ_numbers colours ds facts.0 facts.1
+kind_differs channels colours path (sink input mode) e = tt
+kind_differs channels colours path (queue input out capacity initial) e = tt
+kind_differs channels colours path (function input out table) e = tt
+kind_differs channels colours path (fork input a b table_a table_b) e = tt
+kind_differs channels colours path (join a b out pass) e = tt
+kind_differs channels colours path (switch input a b to_a) e = tt
+kind_differs channels colours path (merge a b out) e = tt
 
 sources_differ : (draft : NamedNet) → each_holds (check_primitive_colours draft.colours) draft.primitives ≡ Ok tt → (p : ℕ) (m : Component) → HasPrim (net_of draft) p m → DiffersIn m
 unfolding net_of
 sources_differ draft e p m has =
     let primitive = mapped_at (primitive_numbered (channel_names draft.primitives) draft.colours) draft.primitives p m has in
-    subst DiffersIn primitive.2 (form_differs (channel_names draft.primitives) draft.colours (place_of net p) primitive.0.form (holds_at (check_primitive_colours draft.colours) draft.primitives e p primitive.0 primitive.1))
+    subst DiffersIn primitive.2 (kind_differs (channel_names draft.primitives) draft.colours (place_of net p) primitive.0.kind (holds_at (check_primitive_colours draft.colours) draft.primitives e p primitive.0 primitive.1))
 
 -- ---- the tape and the proof
 

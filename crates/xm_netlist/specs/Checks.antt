@@ -33,7 +33,7 @@ check_primitive_name primitives i primitive = do
   _ ← check (is_name primitive.name) (bad_name (member_of (place_of net i) (codes "name")))
   _ ← check (not (is_among (map name_of (take i primitives)) primitive.name))
       (same_name (member_of (place_of net i) (codes "name")))
-  check_port_names (place_of net i) (ports_of primitive.form)
+  check_port_names (place_of net i) (ports_of primitive.kind)
 
 unfoldable pub check_names : NamedNet → Result ⊤ Fault
 check_names draft = do
@@ -62,20 +62,20 @@ check_table colours path (image ∷ images) = do
   _ ← check_known colours (member_of path image.0) image.1
   check_table colours path images
 
-abbrev pub check_form_colours : List Name → Path → NamedKind → Result ⊤ Fault
-check_form_colours colours path (source out ds mode) =
+abbrev pub check_kind_colours : List Name → Path → NamedKind → Result ⊤ Fault
+check_kind_colours colours path (source out ds mode) =
     each_holds (check_offered colours (member_of path (codes "colours")) ds) ds
-check_form_colours colours path (queue input out capacity initial) =
+check_kind_colours colours path (queue input out capacity initial) =
     check_all_known colours (member_of path (codes "initial")) initial
-check_form_colours colours path (function input out table) = check_table colours (member_of path (codes "map")) table
-check_form_colours colours path (fork input a b table_a table_b) = do
+check_kind_colours colours path (function input out table) = check_table colours (member_of path (codes "map")) table
+check_kind_colours colours path (fork input a b table_a table_b) = do
   _ ← check_table colours (member_of path (codes "map_a")) table_a
   check_table colours (member_of path (codes "map_b")) table_b
-check_form_colours colours path (switch input a b to_a) = check_all_known colours (member_of path (codes "to_a")) to_a
-check_form_colours colours path _ = Ok tt
+check_kind_colours colours path (switch input a b to_a) = check_all_known colours (member_of path (codes "to_a")) to_a
+check_kind_colours colours path _ = Ok tt
 
 abbrev pub check_primitive_colours : List Name → ℕ → NamedPrimitive → Result ⊤ Fault
-check_primitive_colours colours i primitive = check_form_colours colours (place_of net i) primitive.form
+check_primitive_colours colours i primitive = check_kind_colours colours (place_of net i) primitive.kind
 
 abbrev pub check_entry_colours : List Name → ℕ → AllowEntry → Result ⊤ Fault
 check_entry_colours colours i entry = check_all_known colours (member_of (codes "allow") entry.channel) entry.colours
@@ -103,24 +103,24 @@ abbrev pub check_packets : NamedKind → Result ⊤ Fault
 check_packets (queue input out capacity initial) = check_size which.Initial 0 capacity (length initial)
 check_packets _ = Ok tt
 
-abbrev pub form_capacity : NamedKind → ℕ
-form_capacity (queue input out capacity initial) = capacity
-form_capacity _ = 0
+abbrev pub kind_capacity : NamedKind → ℕ
+kind_capacity (queue input out capacity initial) = capacity
+kind_capacity _ = 0
 
 abbrev pub capacity_in : NamedPrimitive → ℕ
-capacity_in primitive = form_capacity primitive.form
+capacity_in primitive = kind_capacity primitive.kind
 
 -- of a source, its colours
 abbrev pub check_source_size : ℕ → NamedPrimitive → Result ⊤ Fault
-check_source_size i primitive = check_offers primitive.form
+check_source_size i primitive = check_offers primitive.kind
 
 -- of a queue, its capacity
 abbrev pub check_queue_size : ℕ → NamedPrimitive → Result ⊤ Fault
-check_queue_size i primitive = check_room primitive.form
+check_queue_size i primitive = check_room primitive.kind
 
 -- of a queue, its first packets
 abbrev pub check_queue_packets : ℕ → NamedPrimitive → Result ⊤ Fault
-check_queue_packets i primitive = check_packets primitive.form
+check_queue_packets i primitive = check_packets primitive.kind
 
 unfoldable pub check_sizes : NamedNet → Result ⊤ Fault
 check_sizes draft = do

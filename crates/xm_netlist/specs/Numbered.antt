@@ -48,7 +48,7 @@ component_in channels colours (merge a b out) =
     Merge (number_in channels a) (number_in channels b) (number_in channels out)
 
 abbrev pub primitive_numbered : List Name → List Name → NamedPrimitive → Component
-primitive_numbered channels colours primitive = component_in channels colours primitive.form
+primitive_numbered channels colours primitive = component_in channels colours primitive.kind
 
 -- the net that the names make, well wired or not
 unfoldable pub net_of : NamedNet → Network

@@ -177,16 +177,16 @@ fn check_fork_colours(
     check_map(alloc, colours, path, "map_b", table_b)
 }
 
-fn check_form_colours(
+fn check_kind_colours(
     alloc: Global,
     colours: &IndexSet<String>,
     path: &str,
-    form: &NamedKind,
+    kind: &NamedKind,
 ) -> Result<(), DocFault>
-    ensures { Gives (λ _. tt) result (spec.check_form_colours (names_of colours.now.keys) path.now
-        (named_kind_of form.now)) }
+    ensures { Gives (λ _. tt) result (spec.check_kind_colours (names_of colours.now.keys) path.now
+        (named_kind_of kind.now)) }
 {
-    match form {
+    match kind {
         NamedKind::Source { colours: names, .. } => check_source_colours(
             alloc, colours, path, names,
         ),
@@ -216,7 +216,7 @@ fn check_primitive_colours(
         (named_primitive_of primitive.now)) }
 {
     let path = place_path(alloc, "net", place)?;
-    check_form_colours(alloc, colours, path.as_str(), &primitive.form)
+    check_kind_colours(alloc, colours, path.as_str(), &primitive.kind)
 }
 
 fn check_primitives_colours(

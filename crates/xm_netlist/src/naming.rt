@@ -116,10 +116,10 @@ fn check_port_name_if(alloc: Global, path: &str, port: Option<Port>) -> Check
     }
 }
 
-fn check_port_names(alloc: Global, path: &str, form: &NamedKind) -> Check
-    ensures { Gives (λ _. tt) result (spec.check_port_names path.now (plain.ports_of (named_kind_of form.now))) }
+fn check_port_names(alloc: Global, path: &str, kind: &NamedKind) -> Check
+    ensures { Gives (λ _. tt) result (spec.check_port_names path.now (plain.ports_of (named_kind_of kind.now))) }
 {
-    let ports = ports_of(form);
+    let ports = ports_of(kind);
     check_port_name(alloc, path, ports.first)?;
     check_port_name_if(alloc, path, ports.second)?;
     check_port_name_if(alloc, path, ports.third)
@@ -143,7 +143,7 @@ fn check_primitive_name(
     if !is_new(alloc, before, primitive.name.as_str())? {
         return Err(DocFault::SameName(member_text(alloc, path.as_str(), "name")?));
     }
-    check_port_names(alloc, path.as_str(), &primitive.form)
+    check_port_names(alloc, path.as_str(), &primitive.kind)
 }
 
 /// The names of the primitives, which have their form and differ, where the names of their channels have

@@ -9,7 +9,7 @@ ghost use Rattle.xm_shape.specs.Views.{named_kind_of, names_of, named_primitive_
 ghost use Rattle.xm_shape.specs.Names.{number_in};
 ghost use Rattle.xm_netlist.specs.Numbered as spec;
 ghost use Rattle.xm_netlist.specs.Inner.Placed.{AreFew, numbered_component, naming_from, numbered_primitive, with_images, with_marks};
-ghost use Rattle.xm_netlist.specs.Checks.{capacity_in, form_capacity};
+ghost use Rattle.xm_netlist.specs.Checks.{capacity_in, kind_capacity};
 
 use indexmap::IndexSet;
 use std::alloc::Global;
@@ -225,13 +225,13 @@ fn switch(alloc: Global, numbers: &Numbers, input: &str, a: &str, b: &str, to_a:
     })
 }
 
-/// The primitive of a form.
-fn component(alloc: Global, numbers: &Numbers, form: &NamedKind) -> Build
+/// The primitive of a kind.
+fn component(alloc: Global, numbers: &Numbers, kind: &NamedKind) -> Build
     requires few { AreFew numbers.now }
-    requires small { form_capacity (named_kind_of form.now) ≤ most_capacity }
-    ensures { IfOk result (λ prim. component_of prim ≡ numbered_component numbers.now (named_kind_of form.now)) }
+    requires small { kind_capacity (named_kind_of kind.now) ≤ most_capacity }
+    ensures { IfOk result (λ prim. component_of prim ≡ numbered_component numbers.now (named_kind_of kind.now)) }
 {
-    match form {
+    match kind {
         NamedKind::Source { out, colours, mode } => source(alloc, numbers, out, colours, *mode),
         NamedKind::Sink { input, mode } => Ok(Prim::Sink {
             input: numbers.channel(input),
@@ -279,7 +279,7 @@ pub(crate) fn components(
 {
     let mut prims = List::new(alloc);
     for primitive in primitives {
-        prims.push(component(alloc, numbers, &primitive.form)?)?;
+        prims.push(component(alloc, numbers, &primitive.kind)?)?;
     }
     Ok(prims)
 }

@@ -24,10 +24,10 @@ fn check_size(it: Which, low: u64, high: u64, count: u64) -> Result<(), DocFault
     Ok(())
 }
 
-fn check_offers(form: &NamedKind) -> Result<(), DocFault>
-    ensures { Gives (λ _. tt) result (spec.check_offers (named_kind_of form.now)) }
+fn check_offers(kind: &NamedKind) -> Result<(), DocFault>
+    ensures { Gives (λ _. tt) result (spec.check_offers (named_kind_of kind.now)) }
 {
-    match form {
+    match kind {
         NamedKind::Source { colours, .. } => {
             check_size(
                 Which::SourceColours,
@@ -40,10 +40,10 @@ fn check_offers(form: &NamedKind) -> Result<(), DocFault>
     }
 }
 
-fn check_room(form: &NamedKind) -> Result<(), DocFault>
-    ensures { Gives (λ _. tt) result (spec.check_room (named_kind_of form.now)) }
+fn check_room(kind: &NamedKind) -> Result<(), DocFault>
+    ensures { Gives (λ _. tt) result (spec.check_room (named_kind_of kind.now)) }
 {
-    match form {
+    match kind {
         NamedKind::Queue { capacity, .. } => check_size(
             Which::Capacity,
             1,
@@ -54,10 +54,10 @@ fn check_room(form: &NamedKind) -> Result<(), DocFault>
     }
 }
 
-fn check_packets(form: &NamedKind) -> Result<(), DocFault>
-    ensures { Gives (λ _. tt) result (spec.check_packets (named_kind_of form.now)) }
+fn check_packets(kind: &NamedKind) -> Result<(), DocFault>
+    ensures { Gives (λ _. tt) result (spec.check_packets (named_kind_of kind.now)) }
 {
-    match form {
+    match kind {
         NamedKind::Queue {
             capacity,
             packets,
@@ -67,10 +67,10 @@ fn check_packets(form: &NamedKind) -> Result<(), DocFault>
     }
 }
 
-fn form_capacity(form: &NamedKind) -> u64
-    ensures { result ≡ spec.form_capacity (named_kind_of form.now) }
+fn kind_capacity(kind: &NamedKind) -> u64
+    ensures { result ≡ spec.kind_capacity (named_kind_of kind.now) }
 {
-    match form {
+    match kind {
         NamedKind::Queue { capacity, .. } => *capacity,
         _ => 0,
     }
@@ -80,7 +80,7 @@ fn check_source_sizes(primitives: &[NamedPrimitive]) -> Result<(), DocFault>
     ensures { Gives (λ _. tt) result (each_holds spec.check_source_size (map named_primitive_of primitives.now)) }
 {
     for primitive in primitives {
-        check_offers(&primitive.form)?;
+        check_offers(&primitive.kind)?;
     }
     Ok(())
 }
@@ -89,7 +89,7 @@ fn check_queue_sizes(primitives: &[NamedPrimitive]) -> Result<(), DocFault>
     ensures { Gives (λ _. tt) result (each_holds spec.check_queue_size (map named_primitive_of primitives.now)) }
 {
     for primitive in primitives {
-        check_room(&primitive.form)?;
+        check_room(&primitive.kind)?;
     }
     Ok(())
 }
@@ -98,7 +98,7 @@ fn check_all_packets(primitives: &[NamedPrimitive]) -> Result<(), DocFault>
     ensures { Gives (λ _. tt) result (each_holds spec.check_queue_packets (map named_primitive_of primitives.now)) }
 {
     for primitive in primitives {
-        check_packets(&primitive.form)?;
+        check_packets(&primitive.kind)?;
     }
     Ok(())
 }
@@ -112,7 +112,7 @@ fn capacities(primitives: &[NamedPrimitive]) -> u64
 {
     let mut total = 0;
     for primitive in primitives {
-        total += form_capacity(&primitive.form);
+        total += kind_capacity(&primitive.kind);
     }
     total
 }

@@ -87,3 +87,13 @@ tape_line (tape.tape_shape path) = path_line (codes "tape: shape") path
 tape_line (tape.tape_limit count) = cycles_line count
 tape_line (tape.row_length row bytes) = row_line row bytes
 tape_line (tape.bad_mark row oracle) = mark_line row oracle
+
+-- ---- invariants
+
+-- there are so many pairs of a channel and a colour
+abbrev pub width_line : ℕ → List ℕ
+width_line pairs = line (codes "net: too wide " ++ decimal pairs)
+
+-- the elimination left 128 bits in this column of the flow rows
+abbrev pub overflow_line : ℕ → List ℕ
+overflow_line column = line (codes "overflow column " ++ decimal column)

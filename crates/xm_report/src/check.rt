@@ -5,23 +5,13 @@ ghost use Rattle.xm_colours.specs.Family.{Rises, colours_at};
 ghost use Rattle.xm_model.specs.Naming.{naming_of};
 ghost use Rattle.xm_model.specs.Membership.{IsIn};
 ghost use Rattle.xm_report.specs.Check as spec;
-ghost use Rattle.xm_report.specs.Check.{channel_line, channel_lines, colour_if, count_line};
+ghost use Rattle.xm_report.specs.Check.{channel_line, channel_lines, colour_if};
 
-use crate::pieces::{push_count, push_name};
+use crate::pieces::{push_line, push_name};
 use std::alloc::Global;
 use xm_colours::Colours;
 use xm_design::Design;
 use xm_model::{Names, OutOfMemory, Text};
-
-/// Appends a line of a word and a number.
-fn push_line(text: &mut Text, word: &[u8], n: u64) -> Result<(), OutOfMemory>
-    ensures { OnOk result (text.new.items ≡ text.old.items ++ count_line word.now n) }
-{
-    text.push_bytes(word)?;
-    text.push_bytes(b" ")?;
-    push_count(text, n)?;
-    text.push_bytes(b"\n")
-}
 
 /// Appends a space and the name of colour `d`, where the test holds.
 fn push_colour_if(text: &mut Text, names: &Names, test: bool, d: u8) -> Result<(), OutOfMemory>

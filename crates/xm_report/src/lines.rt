@@ -210,14 +210,21 @@ fn mark_line(alloc: Global, row: u32, oracle: u32) -> Result<Text, OutOfMemory>
     line_in_row(alloc, b"tape: mark ", row, b" ", u64::from(oracle))
 }
 
+/// The line of a number, with its words.
+fn number_line(alloc: Global, words: &[u8], number: u64) -> Result<Text, OutOfMemory>
+    ensures { IfOk result (λ text. text.items ≡ line (words.now ++ decimal number)) }
+{
+    let mut text = Text::new(alloc);
+    text.push_bytes(words)?;
+    push_count(&mut text, number)?;
+    text.push_bytes(b"\n")?;
+    Ok(text)
+}
+
 fn cycles_line(alloc: Global, count: u64) -> Result<Text, OutOfMemory>
     ensures { IfOk result (λ text. text.items ≡ spec.cycles_line count) }
 {
-    let mut text = Text::new(alloc);
-    text.push_bytes(b"tape: limit ")?;
-    push_count(&mut text, count)?;
-    text.push_bytes(b"\n")?;
-    Ok(text)
+    number_line(alloc, b"tape: limit ", count)
 }
 
 /// The line of a tape's first fault. Of want of memory no clause speaks.
@@ -231,4 +238,18 @@ pub fn tape_line(alloc: Global, fault: &TapeFault) -> Result<Text, OutOfMemory>
         TapeFault::BadMark(row, oracle) => mark_line(alloc, *row, *oracle),
         TapeFault::OutOfMemory => Text::from_bytes(alloc, b"memory\n"),
     }
+}
+
+/// The line of a net that has too many pairs for flow rows.
+pub fn width_line(alloc: Global, pairs: u64) -> Result<Text, OutOfMemory>
+    ensures { IfOk result (λ text. text.items ≡ spec.width_line pairs) }
+{
+    number_line(alloc, b"net: too wide ", pairs)
+}
+
+/// The line of invariants whose numbers leave 128 bits, in this column of the flow rows.
+pub fn overflow_line(alloc: Global, column: u32) -> Result<Text, OutOfMemory>
+    ensures { IfOk result (λ text. text.items ≡ spec.overflow_line column) }
+{
+    number_line(alloc, b"overflow column ", u64::from(column))
 }

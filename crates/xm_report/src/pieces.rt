@@ -3,6 +3,7 @@
 ghost use Rattle.std.specs.Prelude.{◌≡◌, ◌++◌, decimal, OnOk};
 ghost use Rattle.xm_model.specs.TextLines.{name_at};
 ghost use Rattle.xm_model.specs.Naming.{texts_of};
+ghost use Rattle.xm_report.specs.Check.{count_line};
 
 use xm_model::{OutOfMemory, Text, name_of};
 
@@ -18,4 +19,14 @@ pub fn push_count(text: &mut Text, n: u64) -> Result<(), OutOfMemory>
     ensures { OnOk result (text.new.items ≡ text.old.items ++ decimal n) }
 {
     text.push_number(i128::from(n))
+}
+
+/// Appends a line of a word and a number.
+pub fn push_line(text: &mut Text, word: &[u8], n: u64) -> Result<(), OutOfMemory>
+    ensures { OnOk result (text.new.items ≡ text.old.items ++ count_line word.now n) }
+{
+    text.push_bytes(word)?;
+    text.push_bytes(b" ")?;
+    push_count(text, n)?;
+    text.push_bytes(b"\n")
 }

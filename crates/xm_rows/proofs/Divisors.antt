@@ -1,8 +1,8 @@
 -- Greatest common divisors of rows, and rows divided.
-use Rattle.std.proofs.Common.{◌≡◌, ◌≢◌, ℕ, zero, suc, ◌+◌, ◌*◌, ◌/◌, ◌^◌, ◌<◌, ◌≤◌, ◌⊎◌, inl, inr, List, [], ◌∷◌, ◌++◌, length, take, get_or, map, Bool, true, false, cond, nat_eq, refl, sym, ◌∙◌, ap, ap₂, subst, arith, pos, negsuc, neg_ℤ, ltb-true, le-ltb, ℤ, ◌+ℤ◌, ◌*ℤ◌, ◌<ℤ◌, unsigned_abs, int_div, All}
+use Rattle.std.proofs.Common.{◌≡◌, ◌≢◌, ℕ, zero, suc, ◌+◌, ◌*◌, ◌/◌, ◌^◌, ◌<◌, ◌≤◌, ◌⊎◌, inl, inr, List, [], ◌∷◌, ◌++◌, length, take, drop, get_or, map, Bool, true, false, cond, nat_eq, refl, sym, ◌∙◌, ap, ap₂, subst, arith, pos, negsuc, neg_ℤ, ltb-true, le-ltb, ℤ, ◌+ℤ◌, ◌*ℤ◌, ◌<ℤ◌, unsigned_abs, int_div, All}
 use Rattle.std.specs.Int.{◌∣◌, IsGcd, is_negative}
 use Rattle.std.proofs.lemmas.Int.{unsigned_abs-mul, ints}
-use Rattle.std.proofs.lemmas.List.{take_more, take_all}
+use Rattle.std.proofs.lemmas.List.{take_more, take_all, take-append-drop}
 use Rattle.std.proofs.lemmas.List.Elements.{All-head, All-tail, All-cons, All-nil, All-push, All-weaker, All-map}
 use Rattle.std.proofs.lemmas.Nat.Gcd.{dvd_refl, dvd_trans, le_of_dvd}
 use Rattle.std.proofs.Math.IntN.{*ℤ_comm, zero-*ℤ, *ℤ-zero}
@@ -45,6 +45,17 @@ divisor_more es i d constant before next in_list h g =
 pub divisor_all : (es : List Entry) (i : ℕ) (z constant : ℤ) (d : ℕ) → length es ≤ i → z ≡ constant →
     IsRowDivisor d (record { entries = take i es; constant = z }) → IsRowDivisor d (record { entries = es; constant = constant })
 divisor_all es i z constant d past same h = rw (take_all i es past, same) at h
+
+-- once it is 1, no further value changes it
+pub divisor_one : (es : List Entry) (i : ℕ) (z constant : ℤ) → z ≡ constant → IsRowDivisor 1 (record { entries = take i es; constant = z }) →
+    IsRowDivisor 1 (record { entries = es; constant = constant })
+divisor_one es i z constant same h = (
+  ((λ k d below. one-dvd (unsigned_abs (get_or es k d).value)), one-dvd (unsigned_abs constant)),
+  λ other common. h.1 other (
+    all_left (λ e. other ∣ unsigned_abs e.value) (take i es) (drop i es) (subst (All (λ e. other ∣ unsigned_abs e.value)) (sym (take-append-drop i es)) common.0),
+    subst (λ (y : ℤ). other ∣ unsigned_abs y) (sym same) common.1,
+  ),
+)
 
 -- a divisor of a number other than 0 is no greater than it
 divides_within : (d : ℕ) (z : ℤ) → z ≢ pos 0 → Fits128 z → d ∣ unsigned_abs z → d < 2 ^ 127

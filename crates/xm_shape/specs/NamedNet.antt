@@ -23,7 +23,7 @@ pub data NamedKind : Type 0 where
 
 pub record NamedPrimitive : Type 0 where
   pub name : Name
-  pub form : NamedKind
+  pub kind : NamedKind
 
 -- a channel with the only colours that it may have
 pub record AllowEntry : Type 0 where
@@ -52,7 +52,7 @@ ports_of (switch input a b to_a) = (codes "in", input) ∷ (codes "a", a) ∷ (c
 ports_of (merge a b out) = (codes "a", a) ∷ (codes "b", b) ∷ (codes "out", out) ∷ []
 
 abbrev pub channels_of : NamedPrimitive → List Name
-channels_of primitive = map (λ (port : Port). port.1) (ports_of primitive.form)
+channels_of primitive = map (λ (port : Port). port.1) (ports_of primitive.kind)
 
 -- channels are numbered in the order of their first uses, over primitives and then ports
 abbrev pub channel_names : List NamedPrimitive → List Name

@@ -184,15 +184,15 @@ kind_of text =
     else (if bytes_eq text (codes "switch") then Some is_switch
     else (if bytes_eq text (codes "merge") then Some is_merge else None)))))))
 
-abbrev pub form_in : Kind → ℕ → Path → Data → Result NamedKind Path
-form_in is_source version path d = source_in version path d
-form_in is_sink version path d = sink_in path d
-form_in is_queue version path d = queue_in version path d
-form_in is_function version path d = function_in path d
-form_in is_fork version path d = fork_in path d
-form_in is_join version path d = join_in path d
-form_in is_switch version path d = switch_in path d
-form_in is_merge version path d = merge_in path d
+abbrev pub kind_in : Kind → ℕ → Path → Data → Result NamedKind Path
+kind_in is_source version path d = source_in version path d
+kind_in is_sink version path d = sink_in path d
+kind_in is_queue version path d = queue_in version path d
+kind_in is_function version path d = function_in path d
+kind_in is_fork version path d = fork_in path d
+kind_in is_join version path d = join_in path d
+kind_in is_switch version path d = switch_in path d
+kind_in is_merge version path d = merge_in path d
 
 -- the text of its kind, before it is known
 unfoldable pub kind_text_in : Path → Data → Result (List ℕ) Path
@@ -204,8 +204,8 @@ kind_text_in path d = do
 unfoldable pub primitive_of : Kind → ℕ → Path → Data → Result NamedPrimitive Path
 primitive_of kind version path d = do
   name ← text_member path (codes "name") d
-  form ← form_in kind version path d
-  Ok (record { name = name; form = form })
+  named ← kind_in kind version path d
+  Ok (record { name = name; kind = named })
 
 -- a value that has not its form is a fault of shape
 abbrev pub shaped : {A : Type 0} → Result A Path → Result A Fault

@@ -37,7 +37,7 @@ named_kind_of (kinds.Switch input a b to_a) =
 named_kind_of (kinds.Merge a b out) = plain.merge (string_bytes a) (string_bytes b) (string_bytes out)
 
 abbrev pub named_primitive_of : code_primitive.NamedPrimitive → plain.NamedPrimitive
-named_primitive_of primitive = record { name = string_bytes primitive.name; form = named_kind_of primitive.form }
+named_primitive_of primitive = record { name = string_bytes primitive.name; kind = named_kind_of primitive.kind }
 
 abbrev pub allow_entry_of : code_entry.AllowEntry → plain.AllowEntry
 allow_entry_of entry = record { channel = string_bytes entry.channel; colours = names_of entry.colours.items }

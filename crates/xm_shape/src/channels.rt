@@ -63,10 +63,10 @@ fn three<'a>(first: Port<'a>, second: Port<'a>, third: Port<'a>) -> Ports<'a>
 }
 
 /// The ports of a primitive, each kind's in the order of the table of kinds.
-pub fn ports_of(form: &NamedKind) -> Ports<'_>
-    ensures { plain_ports_of result ≡ plain.ports_of (named_kind_of form.entry.now) }
+pub fn ports_of(kind: &NamedKind) -> Ports<'_>
+    ensures { plain_ports_of result ≡ plain.ports_of (named_kind_of kind.entry.now) }
 {
-    match form {
+    match kind {
         NamedKind::Source { out, .. } => one(port_at("out", out)),
         NamedKind::Sink { input, .. } => one(port_at("in", input)),
         NamedKind::Queue { input, out, .. } => two(port_at("in", input), port_at("out", out)),
@@ -118,7 +118,7 @@ fn note_ports(
     ensures { OnOk result (names_of set.new.keys
         ≡ first_uses (names_of set.old.keys) (plain.channels_of (named_primitive_of primitive.now))) }
 {
-    let ports = ports_of(&primitive.form);
+    let ports = ports_of(&primitive.kind);
     note(alloc, set, ports.first.channel)?;
     note_if(alloc, set, ports.second)?;
     note_if(alloc, set, ports.third)

@@ -213,7 +213,7 @@ fn merge(alloc: Global, path: &str, object: &Value) -> Result<NamedKind, PathFau
     Ok(NamedKind::Merge { a, b, out })
 }
 
-fn form_of(
+fn kind_in(
     alloc: Global,
     kind: Kind,
     version: u64,
@@ -221,7 +221,7 @@ fn form_of(
     object: &Value,
 ) -> Result<NamedKind, PathFault>
     ensures { Gives named_kind_of result
-        (spec.form_in (plain_kind_of kind) version path.now (view object.now)) }
+        (spec.kind_in (plain_kind_of kind) version path.now (view object.now)) }
 {
     match kind {
         Kind::Source => source(alloc, version, path, object),
@@ -259,8 +259,8 @@ fn primitive_of(
         (spec.primitive_of (plain_kind_of kind) version path.now (view object.now)) }
 {
     let name = name_member(alloc, path, "name", object)?;
-    let form = form_of(alloc, kind, version, path, object)?;
-    Ok(NamedPrimitive { name, form })
+    let named = kind_in(alloc, kind, version, path, object)?;
+    Ok(NamedPrimitive { name, kind: named })
 }
 
 /// The primitive at `path`.

@@ -62,7 +62,7 @@ pub enum NamedKind {
 #[derive(Drop)]
 pub struct NamedPrimitive {
     pub name: String,
-    pub form: NamedKind,
+    pub kind: NamedKind,
 }
 
 /// A channel with the only colours that it may have.

@@ -1,3 +1,3 @@
 -- What private clauses cite, and no public one.
 pub mod Cells
-pub mod Made
+pub mod Planning

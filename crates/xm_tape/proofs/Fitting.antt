@@ -1,9 +1,9 @@
 -- What is chosen for a source is of its list, and for a sink a readiness, in each form of a tape.
-use Rattle.std.proofs.Common.{◌≡◌, ℕ, zero, suc, ◌+◌, ◌<◌, Bool, true, false, cond, List, [], ◌∷◌, ◌++◌, length, get_or, Option, Some, None, Ok, refl, sym, ◌∙◌, subst, inl, inr, arith}
+use Rattle.std.proofs.Common.{◌≡◌, ℕ, zero, suc, ◌+◌, ◌<◌, Bool, true, false, cond, List, [], ◌∷◌, ◌++◌, length, get_or, Option, Some, None, Ok, refl, subst, inl, inr, arith}
 use Rattle.std.proofs.lemmas.Bool.{eqb-true}
 use Rattle.std.specs.Prelude.{◌==◌, slice_get, option_map, option_and_then}
 use Rattle.xm_json.specs.Lemmas.StepFacts.{bound, checked, cons, demanded}
-use Rattle.xm_model.specs.Component.{Component, Fork, Function, Join, Merge, Queue, Sink, Source, Switch}
+use Rattle.xm_model.specs.Component.{Component, Sink, Source}
 use Rattle.xm_model.specs.Views.{choice_at, choice_or, is_oracle, oracles_below}
 use Rattle.xm_model.specs.Net.{Network}
 use Rattle.xm_model.specs.Run.{ChoiceFits, IsReadiness, OffersFrom}

@@ -64,11 +64,3 @@ rows_at-read w (suc n) zero flat h = let e : zero * w ≡ 0 = omega arith in rw 
 rows_at-read w (suc n) (suc r) flat h =
     let e : suc r * w ≡ w + r * w = omega arith in
     rw (e, ← drop-drop (r * w) w flat) (rows_at-read w n r (drop w flat) (omega arith))
-
--- a row was drawn behind t of them
-pub drawn_further : (prims : List Component) (w cycles t number : ℕ) (flat row : List Choice) (total : List (List Choice)) → t < cycles → length prims ≡ w → length flat ≡ t * w → length row ≡ w → row ≡ row_drawn prims number
-    → rows_at w t flat ++ rows_drawn prims (cycles - t) number ≡ total → rows_at w (t + 1) (flat ++ row) ++ rows_drawn prims (cycles - (t + 1)) (number_after w number) ≡ total
-drawn_further prims w cycles t number flat row total lt many long wide drawn so_far =
-    let left : cycles - t ≡ suc (cycles - (t + 1)) = omega arith in
-    let later : rows_drawn prims (cycles - t) number ≡ row ∷ rows_drawn prims (cycles - (t + 1)) (number_after w number) = rw (left, drawn, many) refl in
-    rw (rows_at-further w t flat row long wide, append_assoc) (ap (λ (rs : List (List Choice)). rows_at w t flat ++ rs) (sym later) ∙ so_far)

@@ -1,5 +1,5 @@
 -- The tape of a draft: how its rows are met, how many they are, and its limits.
-use Rattle.std.proofs.Common.{◌≡◌, ℕ, zero, suc, ◌+◌, ◌*◌, ◌≤◌, Bool, true, false, List, [], length, drop, Result, Ok, Err, refl, sym, ap, ◌∙◌, subst, arith}
+use Rattle.std.proofs.Common.{◌≡◌, ℕ, zero, suc, ◌+◌, ◌*◌, ◌≤◌, List, [], length, drop, Result, Ok, Err, refl, sym, ap, ◌∙◌, subst, arith}
 use Rattle.std.specs.Prelude.{nat_le, IfOk}
 use Rattle.std.proofs.lemmas.Bool.{leb-true}
 use Rattle.xm_json.specs.Lemmas.StepFacts.{Fails-bind, bound, checked, each_length}
@@ -8,7 +8,6 @@ use Rattle.xm_model.specs.Net.{Network}
 use Rattle.xm_model.specs.Steps.{check, each_from}
 use Rattle.xm_model.specs.declared.state.Choice.{Choice}
 use Rattle.xm_tape.specs.Draws.{number_after, rows_drawn}
-use Rattle.xm_tape.specs.Fault.{Fault}
 use Rattle.xm_tape.specs.Gives.{Fails, Gives, fault_of}
 use Rattle.xm_tape.specs.Inner.Flat.{IsLonger, added, row_of, rows_at, taped}
 use Rattle.xm_tape.specs.Marks.{oracles_of, row_at}
@@ -16,6 +15,7 @@ use Rattle.xm_tape.specs.Reading.{Draft, cycles_drafted, check_limits, repeating
 use Rattle.xm_tape.specs.Sizes.{most_cycles, most_cycles_by_channels}
 use Rattle.xm_tape.specs.Taped.{Fits, Taped, cycles_of}
 use Rattle.xm_tape.specs.declared.fault.TapeFault.{TapeFault}
+use Rattle.xm_tape.proofs.Drawing.{length-rows_drawn}
 use Rattle.xm_tape.proofs.Fitting.{fits_taped}
 use Rattle.xm_tape.proofs.Flat.{rows_at-front}
 
@@ -49,10 +49,6 @@ module _ (net : Network) (stem cycle : List (List ℕ)) (times : ℕ) where
 
 -- ---- how many
 
-rows_counted : (oracles : List Component) (cycles x : ℕ) → length (rows_drawn oracles cycles x) ≡ cycles
-rows_counted oracles zero x = refl
-rows_counted oracles (suc cycles) x = ap suc (rows_counted oracles cycles (number_after (length oracles) x))
-
 pub cycles_taped : (net : Network) (draft : Draft) (tape : Taped) → taped_in net draft ≡ Ok tape → cycles_of tape ≡ cycles_drafted draft
 unfolding taped_in
 cycles_taped net (written rows) tape is =
@@ -67,7 +63,7 @@ cycles_taped net (repeating first again times) tape is =
     (rw (each_length (row_at net.prims) 0 first stem.0 stem.1, each_length (row_at net.prims) (length first) again cycle.0 cycle.1) refl)
 cycles_taped net (seeded cycles seed) tape is =
     let same : record { stem = rows_drawn (oracles_of net.prims) cycles seed; cycle = []; times = 0 } ≡ tape = cc in
-    subst (λ (t : Taped). cycles_of t ≡ cycles) same (omega (arith, rows_counted (oracles_of net.prims) cycles seed))
+    subst (λ (t : Taped). cycles_of t ≡ cycles) same (omega (arith, length-rows_drawn (oracles_of net.prims) cycles seed))
 
 pub limits_hold : (cycles channels : ℕ) → check_limits cycles channels ≡ Ok tt → (cycles ≤ most_cycles) × (cycles * channels ≤ most_cycles_by_channels)
 limits_hold cycles channels is =

@@ -1,3 +1,4 @@
 -- What private clauses cite, and no public one.
 pub mod Flat
+pub mod Forms
 pub mod Views

@@ -3,6 +3,7 @@ pub mod Fault
 pub mod Gives
 pub mod Inner
 pub mod Marks
+pub mod Place
 pub mod Reading
 pub mod Sizes
 pub mod Taped

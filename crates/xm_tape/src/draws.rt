@@ -1,12 +1,10 @@
 //! The rows of a seeded tape: draws of a linear congruential generator.
 
-ghost use Rattle.std.specs.Prelude.{◌≡◌, ◌+◌, ◌*◌, ◌<◌, IfOk, OnOk, length};
+ghost use Rattle.std.specs.Prelude.{◌≡◌, ◌+◌, ◌*◌, ◌<◌, ◌≤◌, [], ◌∷◌, ◌++◌, length, map};
 ghost use Rattle.xm_model.specs.Component.{component_of};
 ghost use Rattle.xm_tape.specs.Draws as spec;
-ghost use Rattle.xm_tape.specs.Inner.Views.{components_of};
-ghost use Rattle.xm_tape.specs.Inner.Flat.{IsLonger, added, rows_at};
 
-use xm_model::{Choice, List, OutOfMemory, Prim};
+use xm_model::{Choice, List, Prim};
 
 const MULTIPLIER: u64 = 6364136223846793005;
 
@@ -19,12 +17,18 @@ fn next_number(number: u64) -> u64
     number.wrapping_mul(MULTIPLIER).wrapping_add(INCREMENT)
 }
 
-/// The draw below `bound` that a number is: of its upper 31 bits.
+/// The draw below `bound` that a number is: of its upper 31 bits. The bounds of sinks, and of sources of one and
+/// two colours, are told apart, since a remainder by a known number costs less.
 fn draw(number: u64, bound: u64) -> u64
     requires { 0 < bound }
     ensures { result ≡ spec.draw number bound }
 {
-    (number >> 33) % bound
+    let upper = number >> 33;
+    match bound {
+        2 => upper % 2,
+        3 => upper % 3,
+        _ => upper % bound,
+    }
 }
 
 fn offer_drawn(colours: &[u8], number: u64) -> Choice
@@ -47,45 +51,52 @@ fn choice_drawn(prim: &Prim, number: u64) -> Choice
     }
 }
 
-/// Appends the row after a number, and gives the number after it.
-fn push_drawn_row(
-    choices: &mut List<Choice>,
-    oracles: &[&Prim],
-    before: u64,
-) -> Result<u64, OutOfMemory>
-    ensures row { OnOk result
-        (added choices.old.items choices.new.items ≡ spec.row_drawn (components_of oracles.now) before) }
-    ensures number { IfOk result (λ number. number ≡ spec.number_after (length oracles.now) before) }
-    ensures longer { OnOk result (IsLonger choices.old.items choices.new.items) }
-    ensures whole { OnOk result (length (added choices.old.items choices.new.items) ≡ length oracles.now) }
+/// Appends a choice. There is room for it.
+fn push_within(row: &mut List<Choice>, choice: Choice)
+    requires { length row.old.items < row.old.room }
+    ensures items { row.new.items ≡ row.old.items ++ choice ∷ [] }
+    ensures room { row.new.room ≡ row.old.room }
 {
+    let _ = row.push(choice);
+}
+
+/// Makes the row after a number, in place of the old one, and gives the number after the row. There is room for it.
+pub fn draw_row(row: &mut List<Choice>, oracles: &[Prim], before: u64) -> u64
+    requires { length oracles.now ≤ row.old.room }
+    ensures row { row.new.items ≡ spec.row_drawn (map component_of oracles.now) before }
+    ensures number { result ≡ spec.number_after (length oracles.now) before }
+    ensures room { row.new.room ≡ row.old.room }
+{
+    row.truncate(0);
     let mut number = before;
     for prim in oracles {
         number = next_number(number);
-        choices.push(choice_drawn(prim, number))?;
+        push_within(row, choice_drawn(prim, number));
     }
-    Ok(number)
+    number
 }
 
-/// Appends the rows that the seed draws.
-pub fn push_drawn_rows(
-    choices: &mut List<Choice>,
-    oracles: &[&Prim],
-    cycles: u32,
-    seed: u64,
-) -> Result<(), OutOfMemory>
-    ensures rows { OnOk result
-        (rows_at (length oracles.now) cycles (added choices.old.items choices.new.items)
-        ≡ spec.rows_drawn (components_of oracles.now) cycles seed) }
-    ensures longer { OnOk result (IsLonger choices.old.items choices.new.items) }
-    ensures whole { OnOk result
-        (length (added choices.old.items choices.new.items) ≡ cycles * length oracles.now) }
+fn row_skipped(before: u64, width: usize) -> u64
+    ensures { result ≡ spec.number_after width before }
 {
-    let mut number = seed;
-    for t in 0..cycles {
-        // The proof counts the rows by it.
-        let _cycle = t;
-        number = push_drawn_row(choices, oracles, number)?;
+    let mut number = before;
+    for o in 0..width {
+        // The proof counts the draws by it.
+        let _oracle = o;
+        number = next_number(number);
     }
-    Ok(())
+    number
+}
+
+/// The number after so many rows of this width.
+pub fn rows_skipped(before: u64, width: usize, rows: u32) -> u64
+    ensures { result ≡ spec.number_after (rows * width) before }
+{
+    let mut number = before;
+    for t in 0..rows {
+        // The proof counts the rows by it.
+        let _row = t;
+        number = row_skipped(number, width);
+    }
+    number
 }

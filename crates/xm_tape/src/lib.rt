@@ -2,15 +2,19 @@
 #![tactic(auto)]
 
 mod draft;
+mod drawn;
 mod draws;
 mod fault;
 mod limits;
 mod marks;
 mod oracles;
 mod read;
+mod rows;
 mod tape;
+mod written;
 
 pub use fault::TapeFault;
 pub use limits::{MOST_CYCLES, MOST_CYCLES_BY_CHANNELS};
 pub use read::read_tape;
+pub use rows::Rows;
 pub use tape::Tape;

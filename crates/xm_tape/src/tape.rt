@@ -1,29 +1,26 @@
 //! The choices of a run, cycle by cycle.
 
-ghost use Rattle.std.specs.Prelude.{◌≡◌, [], ◌*◌, ◌+◌, ◌<◌, ◌≤◌, ◌^◌, IfOk, length, slice_index_or};
+ghost use Rattle.std.specs.Prelude.{◌≡◌, [], ◌*◌, ◌+◌, ◌<◌, ◌≤◌, ◌^◌, IfOk, length};
 ghost use Rattle.xm_json.specs.Lent.{lent_texts};
 ghost use Rattle.xm_tape.specs.Draws.{seeded_rows};
 ghost use Rattle.xm_tape.specs.Gives.{Gives};
 ghost use Rattle.xm_tape.specs.Reading.{repeating, taped_in};
 ghost use Rattle.xm_tape.specs.Sizes.{most_cycles, most_cycles_by_channels};
 
+use crate::drawn::drawn_tape;
 use crate::fault::TapeFault;
-use crate::oracles::oracles_of;
-use crate::{draws, marks};
+use crate::rows::{Form, Rows};
+use crate::written::WrittenTape;
 use std::alloc::Global;
 use std::marker::Model;
 use xm_design::Design;
-use xm_model::{Choice, List, OutOfMemory};
+use xm_model::OutOfMemory;
 
-/// The choices of a run. A row has one choice for each source and sink; it is kept once, however often it
-/// is repeated, and takes at most 4 bytes a choice.
+/// The choices of a run. Rows that are written are kept, each once; of a seeded tape the seed is kept, and what is
+/// drawn from it comes row by row.
 #[derive(Drop)]
 pub struct Tape {
-    width: u32,
-    stem: u32,
-    cycle: u32,
-    times: u32,
-    choices: List<Choice>,
+    form: Form,
 }
 
 impl Model for Tape {
@@ -31,18 +28,15 @@ impl Model for Tape {
 
     ghost Value = { Taped };
 
-    ghost use Rattle.xm_tape.specs.Inner.Flat.{IsKept, taped};
+    ghost use Rattle.xm_tape.specs.Inner.Forms.{taped_of};
 
-    ghost view = { λ t. taped t.choices.items t.width t.stem t.cycle t.times };
-
-    ghost invariant = { λ t. IsKept t.choices.items t.width t.stem t.cycle t.times };
+    ghost view = { λ t. taped_of t.form };
 }
 
 impl Tape {
-    ghost use Rattle.xm_tape.specs.Inner.Flat.{row_kept};
     ghost use Rattle.xm_tape.specs.Taped.{Fits, cycles_of, rows_of};
 
-    /// The tape that draws its choices from a seed. All its rows are kept.
+    /// The tape that draws its choices from a seed. It keeps no row.
     pub fn seeded(
         alloc: Global,
         design: &Design,
@@ -55,20 +49,13 @@ impl Tape {
             (λ tape. tape ≡ record { stem = seeded_rows design.now.net.prims cycles seed; cycle = []; times = 0 }) }
         ensures fits { IfOk result (Fits design.now.net) }
     {
-        let oracles = oracles_of(alloc, design)?;
-        let mut choices = List::new(alloc);
-        draws::push_drawn_rows(&mut choices, &oracles, cycles, seed)?;
+        let tape = drawn_tape(alloc, design, cycles, seed)?;
         Ok(Tape {
-            choices,
-            width: oracles.len() as u32,
-            stem: cycles,
-            cycle: 0,
-            times: 0,
+            form: Form::Drawn(tape),
         })
     }
 
     /// The tape of these rows of marks: those of the stem once, and those of the cycle so many times.
-    #[tactic(auto, unfolding(crate::specs::Reading::taped_in))]
     pub fn written(
         alloc: Global,
         design: &Design,
@@ -82,70 +69,57 @@ impl Tape {
             (taped_in design.now.net (repeating (lent_texts stem.now) (lent_texts cycle.now) times)) }
         ensures fits { IfOk result (Fits design.now.net) }
     {
-        let oracles = oracles_of(alloc, design)?;
-        let mut choices = List::new(alloc);
-        marks::push_marked_rows(&mut choices, &oracles, 0, stem)?;
-        marks::push_marked_rows(&mut choices, &oracles, stem.len() as u32, cycle)?;
+        let tape = WrittenTape::new(alloc, design, stem, cycle, times)?;
         Ok(Tape {
-            choices,
-            width: oracles.len() as u32,
-            stem: stem.len() as u32,
-            cycle: cycle.len() as u32,
-            times,
+            form: Form::Written(tape),
         })
     }
 
     /// How many cycles the run has.
-    #[tactic(auto, using(crate::proofs::Repeating::counts))]
     pub fn cycles(&self) -> u32
         ensures number { result ≡ cycles_of self.now }
         ensures rows { result ≡ length (rows_of self.now) }
     {
-        self.stem + self.times * self.cycle
-    }
-
-    /// Where the row of cycle `t` stands among the rows that are kept.
-    #[tactic(auto, using(crate::proofs::Repeating::counts))]
-    fn row(&self, t: u32) -> u32
-        requires { t < cycles_of self.now }
-        ensures { result ≡ row_kept (length self.now.stem) (length self.now.cycle) t }
-    {
-        if t < self.stem {
-            t
-        } else {
-            self.stem + (t - self.stem) % self.cycle
+        match &self.form {
+            Form::Written(tape) => tape.cycles(),
+            Form::Drawn(tape) => tape.cycles,
         }
     }
 
-    /// The choices of cycle `t`, one for each source and sink in primitive order, in constant time.
-    pub fn at(&self, t: u32) -> &[Choice]
-        requires { t < cycles_of self.now }
-        ensures { result.now ≡ slice_index_or (rows_of self.now) t [] }
+    /// The rows from a cycle on, in time that is linear in the draws before it and in memory for one row.
+    pub fn rows(&self, alloc: Global, from: u32) -> Result<Rows<'_>, OutOfMemory>
+        ensures { IfOk result (λ rows. rows ≡ record { tape = self.now; cycle = from }) }
     {
-        let start = self.row(t) as usize * self.width as usize;
-        &self.choices.as_slice()[start..start + self.width as usize]
+        Rows::new(alloc, &self.form, from)
     }
 
     /// How many rows come once, before those that are repeated.
-    #[tactic(auto, using(crate::proofs::Repeating::counts))]
     pub fn stem_len(&self) -> u32
         ensures { result ≡ length self.now.stem }
     {
-        self.stem
+        match &self.form {
+            Form::Written(tape) => tape.stem_len(),
+            Form::Drawn(tape) => tape.cycles,
+        }
     }
 
     /// How many rows are repeated.
-    #[tactic(auto, using(crate::proofs::Repeating::counts))]
     pub fn cycle_len(&self) -> u32
         ensures { result ≡ length self.now.cycle }
     {
-        self.cycle
+        match &self.form {
+            Form::Written(tape) => tape.cycle_len(),
+            Form::Drawn(_) => 0,
+        }
     }
 
     /// How many times they come.
     pub fn times(&self) -> u32
         ensures { result ≡ self.now.times }
     {
-        self.times
+        match &self.form {
+            Form::Written(tape) => tape.times(),
+            Form::Drawn(_) => 0,
+        }
     }
 }

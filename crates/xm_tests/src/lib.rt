@@ -1,4 +1,4 @@
-//! The tests of streams, nets, designs, tapes, cycles, runs and rows.
+//! The tests of streams, nets, designs, tapes, cycles, runs, rows and invariants.
 #![tactic(auto)]
 
 #[cfg(test)]

@@ -3,6 +3,8 @@
 mod colours;
 mod cycles;
 mod designs;
+mod flow_rows;
+mod invariants;
 mod lists_and_nets;
 mod names;
 mod nets;

@@ -1,5 +1,6 @@
+pub mod AtOnce
 pub mod Counting
+pub mod Cycles
 pub mod Labelling
-pub mod Lines
 pub mod RoundAdded
 pub mod Running

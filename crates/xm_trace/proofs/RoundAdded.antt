@@ -5,7 +5,7 @@ use Rattle.xm_model.specs.Lending.{refill-full}
 use Rattle.xm_model.specs.Naming.{Naming}
 use Rattle.xm_model.specs.Run.{moves}
 use Rattle.xm_model.specs.Signals.{Signals}
-use Rattle.xm_trace.proofs.Lines.{moves_few, sum_lines_same, sum_round}
+use Rattle.xm_trace.proofs.Cycles.{moves_few, sum_lines_same, sum_round}
 use Rattle.xm_trace.specs.Sums.{sum_at, sum_in}
 use Rattle.xm_trace.specs.Text.{end_line, end_text, sum_lines}
 use Rattle.xm_trace.specs.RunTextState.{Follows, FollowsSome, HasHad, IsNamedBy, RunTextState, channel_totals, total_if, totals_of}
@@ -13,7 +13,7 @@ use Rattle.xm_trace.specs.declared.run_text.Total.{Total}
 use Rattle.xm_trace.specs.declared.trace.Move.{Move}
 
 -- no sum is above the number of cycles
-few_had : (state : RunTextState) (φ : ℕ → Signals) (c d : ℕ) → HasHad state φ → state.cycles < 2 ^ 32 → c < state.channels → d < state.colours → sum_at state.sums state.colours c d < 2 ^ 32
+pub few_had : (state : RunTextState) (φ : ℕ → Signals) (c d : ℕ) → HasHad state φ → state.cycles < 2 ^ 32 → c < state.channels → d < state.colours → sum_at state.sums state.colours c d < 2 ^ 32
 few_had state φ c d had few below within =
     let is = had.sums c d below within in
     let most = moves_few φ c d state.cycles in

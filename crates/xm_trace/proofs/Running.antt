@@ -1,5 +1,5 @@
 -- One more cycle of a run.
-use Rattle.std.proofs.Common.{◌≡◌, ℕ, zero, suc, ◌<◌, ◌≤◌, ◌+◌, ◌-◌, List, ◌++◌, length, get_or, sym, ap, ap₂, subst, ◌∙◌, add-one, append_assoc, arith, refl}
+use Rattle.std.proofs.Common.{◌≡◌, ℕ, zero, suc, ◌<◌, ◌≤◌, ◌+◌, ◌-◌, List, ◌++◌, length, get_or, sym, ap, ap₂, subst, ◌∙◌, add-one, append_assoc, arith, refl, Option}
 use Rattle.std.proofs.lemmas.Option.{slice_get-get_or}
 use Rattle.std.specs.Prelude.{[], slice_index_or}
 use Rattle.xm_model.specs.Component.{Content}
@@ -29,11 +29,19 @@ move_read wires c d below =
     ap₂ (λ r o. only_if r o) (ap ready_or there) (ap offer_or there)
 
 -- one more channel of a cycle
+pub cycle_more : (wires : List Wire) (t c : ℕ) (d : Wire) → c < length wires →
+    cycle_moves (signals_of wires) t (c + 1) ≡ cycle_moves (signals_of wires) t c ++ moved_on t c (only_if (get_or wires c d).ready (get_or wires c d).offer)
+cycle_more wires t c d below =
+    rw add-one (ap (λ (o : Option ℕ). cycle_moves (signals_of wires) t c ++ moved_on t c o) (move_read wires c d below))
+
+-- and its moves noted
 pub note_more : (front items new : List Move) (wires : List Wire) (t c : ℕ) (d : Wire) → c < length wires → items ≡ front ++ cycle_moves (signals_of wires) t c
     → new ≡ items ++ moved_on t c (only_if (get_or wires c d).ready (get_or wires c d).offer) → new ≡ front ++ cycle_moves (signals_of wires) t (c + 1)
 note_more front items new wires t c d below so_far more =
-    rw add-one (more ∙ ap₂ (λ (xs : List Move) (ys : List Move). xs ++ ys) so_far (ap (moved_on t c) (sym (move_read wires c d below)))
-    ∙ append_assoc front (cycle_moves (signals_of wires) t c) (moved_on t c (move (signals_of wires) c)))
+    let here = moved_on t c (only_if (get_or wires c d).ready (get_or wires c d).offer) in
+    more ∙ ap (λ (xs : List Move). xs ++ here) so_far
+    ∙ append_assoc front (cycle_moves (signals_of wires) t c) here
+    ∙ ap (λ (xs : List Move). front ++ xs) (sym (cycle_more wires t c d below))
 
 -- frames that agree move the same
 same_moves : (net : Network) (φ ψ : Signals) (t n : ℕ) → SameFrame net φ ψ → n ≤ net.channels → cycle_moves φ t n ≡ cycle_moves ψ t n
@@ -64,14 +72,16 @@ module _ (net : Network) (is_net : IsNet net) (tape : Taped) (t : ℕ) (below : 
       ∙ sym (next_same net is_net (φ t) (signals_of wires) same_frame (s t) (content_at before) (λ q. sym (here q)) p)
       ∙ sym (run.steps t p below))
 
+  pub moved_same : length wires ≡ net.channels → cycle_moves (signals_of wires) t (length wires) ≡ cycle_moves (φ t) t net.channels
+  moved_same whole = ap (cycle_moves (signals_of wires) t) whole ∙ sym (same_moves net (φ t) (signals_of wires) t net.channels same_frame (omega arith))
+
   pub moves_go : (from : ℕ) (moves new : List Move) → from ≤ t → length wires ≡ net.channels → moves ≡ round_moves φ net.channels from (t - from) → new ≡ moves ++ cycle_moves (signals_of wires) t (length wires)
       → new ≡ round_moves φ net.channels from (t + 1 - from)
   moves_go from moves new after whole so_far more =
       let later : t + 1 - from ≡ suc (t - from) = omega arith in
       let now : from + (t - from) ≡ t = omega arith in
       rw later (more ∙ ap₂ (λ (xs : List Move) (ys : List Move). xs ++ ys) so_far
-      (ap (cycle_moves (signals_of wires) t) whole ∙ sym (same_moves net (φ t) (signals_of wires) t net.channels same_frame (omega arith))
-      ∙ ap (λ (i : ℕ). cycle_moves (φ i) i net.channels) (sym now)))
+      (moved_same whole ∙ ap (λ (i : ℕ). cycle_moves (φ i) i net.channels) (sym now)))
 
 -- what holds of the moves in every run of the tape makes them those of its run, which there is
 pub whole_run : OneRun → (net : Network) (signals : List Signal) → IsNet net → IsOrder net signals → (tape : Taped) (moves : List Move) (n : ℕ) → n ≡ cycles_of tape → AreMovesFrom net tape 0 (n - 0) moves → AreMovesOfRun net tape moves

@@ -1,3 +1,4 @@
 -- What private clauses cite, and no public one.
 pub mod Labels
+pub mod Pieces
 pub mod Table

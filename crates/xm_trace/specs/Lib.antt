@@ -1,4 +1,5 @@
 pub mod Inner
+pub mod Labels
 pub mod Lemmas
 pub mod Moves
 pub mod Rounds

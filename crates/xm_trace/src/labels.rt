@@ -1,13 +1,18 @@
 //! What stands before the colour of a move, made once for each channel.
 
-ghost use Rattle.std.specs.Prelude.{◌≡◌, IfOk};
+ghost use Rattle.std.specs.Prelude.{◌≡◌, ◌+◌, ◌*◌, ◌^◌, ◌<◌, ◌≤◌, ◌++◌, length, take, IfOk};
+ghost use Rattle.xm_model.specs.Limits.{most_channels};
 ghost use Rattle.xm_model.specs.TextLines.{name_at};
-ghost use Rattle.xm_model.specs.Naming.{texts_of};
-ghost use Rattle.xm_trace.specs.Inner.Labels.{AreLabels};
+ghost use Rattle.xm_model.specs.Naming.{naming_of, texts_of};
+ghost use Rattle.xm_trace.specs.Inner.Labels.{AreLabels, AreReady, label_text, labelled_of, move_room};
+ghost use Rattle.xm_trace.specs.Labels.{AreLabelsOf};
 ghost use Rattle.xm_trace.specs.Text.{move_label};
 
+use crate::pieces::{Pieces, pieces_of, put_at};
+use crate::trace::Move;
 use std::alloc::Global;
-use xm_model::{List, OutOfMemory, Text};
+use std::marker::Model;
+use xm_model::{List, Names, OutOfMemory, Text};
 
 fn label_of(alloc: Global, channel: &Text) -> Result<Text, OutOfMemory>
     ensures { IfOk result (λ label. label.items ≡ move_label channel.now.items) }
@@ -38,5 +43,82 @@ pub fn label_at(labels: &[Text], channel: usize) -> &[u8]
     match labels.get(channel) {
         Some(label) => label.as_bytes(),
         None => b" :",
+    }
+}
+
+/// The two texts of a move: what stands before its colour, by channel, and the colour.
+#[derive(Drop)]
+pub struct MoveTexts {
+    pub channels: Pieces,
+    pub colours: Pieces,
+}
+
+/// The texts of the moves of a net with these names.
+fn move_texts(alloc: Global, names: &Names) -> Result<MoveTexts, OutOfMemory>
+    ensures labels { IfOk result (λ texts. AreLabelsOf (naming_of names.now) (labelled_of texts)) }
+    ensures ready { IfOk result AreReady }
+{
+    let labels = labels_of(alloc, names.channels.as_slice())?;
+    let channels = pieces_of(alloc, labels.as_slice())?;
+    let colours = pieces_of(alloc, names.colours.as_slice())?;
+    Ok(MoveTexts { channels, colours })
+}
+
+/// How many bytes of room the moves of a cycle need at most.
+pub fn room_of_moves(texts: &MoveTexts, channels: u32) -> usize
+    requires { channels ≤ most_channels }
+    ensures room { result ≡ channels * move_room texts.now }
+    ensures few { result < 2 ^ 47 }
+{
+    channels as usize * (texts.channels.widest as usize + texts.colours.widest as usize)
+}
+
+/// Writes the text of a move at this place, and gives the place behind it.
+#[inline(always)]
+pub fn put_move(out: &mut [u8], at: usize, texts: &MoveTexts, it: Move) -> usize
+    requires ready { AreReady texts.now }
+    requires room { at + move_room texts.now ≤ length out.old }
+    ensures text { take result out.new ≡ take at out.old ++ label_text (labelled_of texts.now) it }
+    ensures within { result ≤ at + move_room texts.now }
+    ensures len { length out.new ≡ length out.old }
+{
+    let labelled = put_at(out, at, &texts.channels, it.channel as usize);
+    put_at(out, labelled, &texts.colours, usize::from(it.colour))
+}
+
+/// What the lines of a run are made of, made once for the run. A contract sees what stands before the colour of a
+/// move, for each channel, and the names of the colours.
+#[derive(Drop)]
+pub struct Labels {
+    texts: MoveTexts,
+}
+
+impl Model for Labels {
+    ghost use Rattle.xm_trace.specs.Labels.{Labelled};
+
+    ghost Value = { Labelled };
+
+    ghost use Rattle.xm_trace.specs.Inner.Labels.{AreReady, labelled_of};
+
+    ghost view = { λ it. labelled_of it.texts };
+
+    ghost invariant = { λ it. AreReady it.texts };
+}
+
+impl Labels {
+    /// The labels of a net with these names. They take 32 bytes for each channel and colour, and the bytes of each
+    /// name of more than 16 bytes, with what stands around a channel's.
+    pub fn new(alloc: Global, names: &Names) -> Result<Labels, OutOfMemory>
+        ensures { IfOk result (AreLabelsOf (naming_of names.now)) }
+    {
+        let texts = move_texts(alloc, names)?;
+        Ok(Labels { texts })
+    }
+
+    pub(crate) fn texts(&self) -> &MoveTexts
+        ensures labels { labelled_of result.now ≡ self.now }
+        ensures ready { AreReady result.now }
+    {
+        &self.texts
     }
 }

@@ -1,14 +1,19 @@
 //! The text of a run that is made round by round.
 
-ghost use Rattle.std.specs.Prelude.{◌≡◌, ℕ, ◌+◌, IfOk, OnOk, OnErr};
+ghost use Rattle.std.specs.Prelude.{◌≡◌, ℕ, ◌+◌, ◌-◌, ◌*◌, ◌^◌, ◌<◌, ◌≤◌, ◌++◌, decimal, length, IfOk, OnOk, OnErr};
 
+use crate::buffer::Lines;
+use crate::labels::{Labels, MoveTexts, room_of_moves};
 use crate::sums::count_moves;
 use crate::text::{push_end, push_round};
 use crate::trace::Trace;
+use itoa::Buffer;
 use std::alloc::Global;
 use std::marker::Model;
 use xm_design::Design;
-use xm_model::{List, Names, OutOfMemory, Text};
+use xm_model::{Frame, List, Names, OutOfMemory, State, Text};
+use xm_step::{Evaluator, blank, step};
+use xm_tape::Rows;
 
 /// How often a colour moved on a channel, where it did.
 #[derive(Clone, Copy, PartialEq, Eq, Debug)]
@@ -46,9 +51,17 @@ impl Model for RunText {
 }
 
 impl RunText {
-    ghost use Rattle.xm_model.specs.Naming.{naming_of};
+    ghost use Rattle.xm_model.specs.Component.{Content};
+    ghost use Rattle.xm_model.specs.Naming.{Naming, naming_of};
     ghost use Rattle.xm_model.specs.Run.{moves};
     ghost use Rattle.xm_model.specs.Signals.{Signals};
+    ghost use Rattle.xm_step.specs.Roomy.{SameRooms};
+    ghost use Rattle.xm_tape.specs.Taped.{cycles_of};
+    ghost use Rattle.xm_trace.specs.Inner.Labels.{AreReady, labelled_of, move_room};
+    ghost use Rattle.xm_trace.specs.Labels.{AreLabelsOf};
+    ghost use Rattle.xm_trace.specs.Rounds.{IsUnderway};
+    ghost use Rattle.xm_trace.specs.Runs.{IsRunOf};
+    ghost use Rattle.xm_trace.specs.Sums.{sum_at};
     ghost use Rattle.xm_trace.specs.Text.{end_text, round_lines};
     ghost use Rattle.xm_trace.specs.RunTextState.{Follows, FollowsSome, HasHad, IsNamedBy, totals_of};
 
@@ -70,6 +83,111 @@ impl RunText {
             colours,
             sums,
         })
+    }
+
+    /// How many cycles it has had.
+    pub fn cycles(&self) -> u32
+        ensures { result ≡ self.now.cycles }
+    {
+        self.cycles
+    }
+
+    /// Runs the next cycle, appends its line, for which there is room, and counts its moves.
+    fn run_cycle(
+        &mut self,
+        evaluator: &Evaluator<'_>,
+        texts: &MoveTexts,
+        rows: &mut Rows<'_>,
+        state: &mut State,
+        frame: &mut Frame,
+        digits: &[u8],
+        lines: &mut Lines,
+    )
+        requires digits { digits.now ≡ decimal self.old.cycles }
+        requires ready { AreReady texts.now }
+        requires labels { length (labelled_of texts.now).channels ≡ self.old.channels }
+        requires here { IsUnderway evaluator.now.net rows.old.tape self.old state.old.cells.items }
+        requires few { (c d : ℕ) → c < self.old.channels → d < self.old.colours
+            → sum_at self.old.sums self.old.colours c d < 2 ^ 32 }
+        requires row { rows.old.cycle ≡ self.old.cycles }
+        requires within { self.old.cycles < cycles_of rows.old.tape }
+        requires counted { self.old.cycles + 1 < 2 ^ 32 }
+        requires wires { length frame.old.wires.items ≡ evaluator.now.net.channels }
+        requires room { length lines.old.items
+            + (length digits.now + evaluator.now.net.channels * move_room texts.now + 1) ≤ lines.old.room }
+        ensures here { IsUnderway evaluator.now.net rows.old.tape self.new state.new.cells.items }
+        ensures lines { (names : Naming) (s : ℕ → ℕ → Content) (φ : ℕ → Signals)
+            → AreLabelsOf names (labelled_of texts.now) → IsRunOf evaluator.now.net rows.old.tape s φ
+            → lines.new.items ≡ lines.old.items ++ round_lines names φ self.old.cycles 1 }
+        ensures cycles { self.new.cycles ≡ self.old.cycles + 1 }
+        ensures tape { rows.new.tape ≡ rows.old.tape }
+        ensures row { rows.new.cycle ≡ self.new.cycles }
+        ensures channels { self.new.channels ≡ self.old.channels }
+        ensures colours { self.new.colours ≡ self.old.colours }
+        ensures wires { length frame.new.wires.items ≡ evaluator.now.net.channels }
+        ensures rooms { SameRooms evaluator.now.net.prims state.old.cells.items state.new.cells.items }
+        ensures room { state.new.cells.room ≡ state.old.cells.room }
+    {
+        evaluator.design();
+        step(evaluator, state, rows.row(), frame);
+        lines.put_line(
+            self.sums.as_mut_slice(),
+            texts,
+            self.colours as usize,
+            self.cycles,
+            digits,
+            frame.wires.as_slice(),
+        );
+        self.cycles += 1;
+        rows.advance();
+    }
+
+    /// Runs the cycles up to cycle `to` under the rows that follow, appends their lines, one line for each, and counts their moves, in time
+    /// that is linear in the channels, the cycles, the moves and the bytes of the lines. What the lines need beyond
+    /// their room is taken before each cycle. So after a refusal all that was lent stands as after some of the
+    /// cycles, with their lines.
+    pub fn run(
+        &mut self,
+        alloc: Global,
+        evaluator: &Evaluator<'_>,
+        labels: &Labels,
+        rows: &mut Rows<'_>,
+        state: &mut State,
+        to: u32,
+        lines: &mut Lines,
+    ) -> Result<(), OutOfMemory>
+        requires labels { length labels.now.channels ≡ self.old.channels }
+        requires here { IsUnderway evaluator.now.net rows.old.tape self.old state.old.cells.items }
+        requires row { rows.old.cycle ≡ self.old.cycles }
+        requires order { self.old.cycles ≤ to }
+        requires within { to ≤ cycles_of rows.old.tape }
+        ensures here { IsUnderway evaluator.now.net rows.old.tape self.new state.new.cells.items }
+        ensures lines { (names : Naming) (s : ℕ → ℕ → Content) (φ : ℕ → Signals)
+            → AreLabelsOf names labels.now → IsRunOf evaluator.now.net rows.old.tape s φ
+            → lines.new.items
+            ≡ lines.old.items ++ round_lines names φ self.old.cycles (self.new.cycles - self.old.cycles) }
+        ensures later { self.old.cycles ≤ self.new.cycles }
+        ensures within { self.new.cycles ≤ to }
+        ensures come { OnOk result (self.new.cycles ≡ to) }
+        ensures tape { rows.new.tape ≡ rows.old.tape }
+        ensures row { rows.new.cycle ≡ self.new.cycles }
+        ensures channels { self.new.channels ≡ self.old.channels }
+        ensures colours { self.new.colours ≡ self.old.colours }
+        ensures rooms { SameRooms evaluator.now.net.prims state.old.cells.items state.new.cells.items }
+        ensures room { state.new.cells.room ≡ state.old.cells.room }
+    {
+        xm_order::one_run();
+        let design = evaluator.design();
+        let texts = labels.texts();
+        let most = room_of_moves(texts, design.net().channels());
+        let mut frame = blank(alloc, design)?;
+        while self.cycles() < to {
+            let mut number = Buffer::new();
+            let digits = number.format(self.cycles()).as_bytes();
+            lines.reserve(digits.len() + most + 1)?;
+            self.run_cycle(evaluator, texts, rows, state, &mut frame, digits, lines);
+        }
+        Ok(())
     }
 
     /// The lines of the cycles that follow, one line for each, in time that is linear in the channels, the

@@ -10,7 +10,7 @@ use std::alloc::Global;
 use xm_model::{List, OutOfMemory};
 
 /// Adds one to the sum of the move's colour on its channel.
-fn count_move(sums: &mut [u64], channels: usize, colours: usize, it: Move)
+pub fn count_move(sums: &mut [u64], channels: usize, colours: usize, it: Move)
     requires table { IsTable channels colours sums.old }
     requires room { (c d : ℕ) → c < channels → d < colours → sum_at sums.old colours c d + 1 < 2 ^ 64 }
     ensures { (c d : ℕ) → c < channels → d < colours

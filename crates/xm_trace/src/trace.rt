@@ -1,6 +1,7 @@
 //! The moves of a run.
 
 ghost use Rattle.std.specs.Prelude.{◌≡◌, ◌+◌, ◌-◌, ◌*◌, ◌^◌, ◌<◌, ◌≤◌, ◌++◌, length, IfOk, OnOk, OnErr};
+ghost use Rattle.std.specs.Option.{option_to_list};
 ghost use Rattle.xm_model.specs.Views.{signals_of};
 ghost use Rattle.xm_model.specs.Signals.{only_if};
 ghost use Rattle.xm_model.specs.Limits.{most_channels};
@@ -10,9 +11,8 @@ ghost use Rattle.xm_trace.specs.Moves.{cycle_moves, moved_on};
 ghost use Rattle.xm_trace.specs.Runs.{AreCellsAt, AreMovesFrom, AreMovesOfRun};
 
 use std::alloc::Global;
-use xm_design::Design;
 use xm_model::{List, OutOfMemory, State, Wire};
-use xm_step::{blank, reset, step};
+use xm_step::{Evaluator, blank, reset, step};
 use xm_tape::Tape;
 
 /// A colour moved on a channel in a cycle.
@@ -30,6 +30,22 @@ pub struct Trace {
     pub moves: List<Move>,
 }
 
+/// The move on the channel in the cycle, if there is one.
+pub fn move_on(cycle: u32, channel: u32, wire: Wire) -> Option<Move>
+    ensures { option_to_list result ≡ moved_on cycle channel (only_if wire.ready wire.offer) }
+{
+    if let Some(colour) = wire.offer
+        && wire.ready
+    {
+        return Some(Move {
+            cycle,
+            channel,
+            colour,
+        });
+    }
+    None
+}
+
 /// Notes the move on the channel in the cycle, if there is one. There is room for it.
 fn note_move(moves: &mut List<Move>, cycle: u32, channel: u32, wire: Wire)
     requires { length moves.old.items < moves.old.room }
@@ -37,14 +53,8 @@ fn note_move(moves: &mut List<Move>, cycle: u32, channel: u32, wire: Wire)
     ensures few { length moves.new.items ≤ length moves.old.items + 1 }
     ensures room { moves.new.room ≡ moves.old.room }
 {
-    if let Some(colour) = wire.offer
-        && wire.ready
-    {
-        let _ = moves.push(Move {
-            cycle,
-            channel,
-            colour,
-        });
+    if let Some(it) = move_on(cycle, channel, wire) {
+        let _ = moves.push(it);
     }
 }
 
@@ -66,36 +76,39 @@ fn note_moves(moves: &mut List<Move>, cycle: u32, wires: &[Wire])
 
 /// The moves of the cycles from `from` to before `to`, and the state past them. A cycle takes time that is
 /// linear in the primitives, the channels and the packets of queues, and no memory: room for one move on
-/// each channel in each cycle, 12 bytes for one, and for one frame is taken first, so a refusal leaves the
-/// state. No room of the state changes.
+/// each channel in each cycle, 12 bytes for one, for one frame and for one row is taken first, so a refusal leaves
+/// the state. No room of the state changes. Of a drawn tape the draws before `from` are passed over first.
 pub fn run_round(
     alloc: Global,
-    design: &Design,
+    evaluator: &Evaluator<'_>,
     tape: &Tape,
     state: &mut State,
     from: u32,
     to: u32,
 ) -> Result<Trace, OutOfMemory>
-    requires roomy { IsRoomy design.now.net.prims state.old.cells.items }
-    requires cells { AreCellsAt design.now.net tape.now from state.old.cells.items }
+    requires roomy { IsRoomy evaluator.now.net.prims state.old.cells.items }
+    requires cells { AreCellsAt evaluator.now.net tape.now from state.old.cells.items }
     requires order { from ≤ to }
     requires within { to ≤ cycles_of tape.now }
-    requires room { (to - from) * design.now.net.channels < 2 ^ 32 }
+    requires room { (to - from) * evaluator.now.net.channels < 2 ^ 32 }
     ensures cycles { IfOk result (λ trace. trace.cycles ≡ to - from) }
-    ensures moves { IfOk result (λ trace. AreMovesFrom design.now.net tape.now from (to - from) trace.moves.items) }
-    ensures cells { OnOk result (AreCellsAt design.now.net tape.now to state.new.cells.items) }
-    ensures roomy { OnOk result (IsRoomy design.now.net.prims state.new.cells.items) }
-    ensures rooms { OnOk result (SameRooms design.now.net.prims state.old.cells.items state.new.cells.items) }
+    ensures moves { IfOk result (λ trace. AreMovesFrom evaluator.now.net tape.now from (to - from) trace.moves.items) }
+    ensures cells { OnOk result (AreCellsAt evaluator.now.net tape.now to state.new.cells.items) }
+    ensures roomy { OnOk result (IsRoomy evaluator.now.net.prims state.new.cells.items) }
+    ensures rooms { OnOk result (SameRooms evaluator.now.net.prims state.old.cells.items state.new.cells.items) }
     ensures room { state.new.cells.room ≡ state.old.cells.room }
     ensures err { OnErr result (state.new ≡ state.old) }
 {
+    let design = evaluator.design();
     let channels = design.net().channels();
     let mut moves = List::new(alloc);
     moves.reserve((to - from) * channels)?;
     let mut frame = blank(alloc, design)?;
+    let mut rows = tape.rows(alloc, from)?;
     for t in from..to {
-        step(design, state, tape.at(t), &mut frame);
+        step(evaluator, state, rows.row(), &mut frame);
         note_moves(&mut moves, t, frame.wires.as_slice());
+        rows.advance();
     }
     Ok(Trace {
         cycles: to - from,
@@ -104,13 +117,12 @@ pub fn run_round(
 }
 
 /// The moves of the tape's run, by cycle and then channel, as one round.
-pub fn run_all(alloc: Global, design: &Design, tape: &Tape) -> Result<Trace, OutOfMemory>
-    requires { cycles_of tape.now * design.now.net.channels < 2 ^ 32 }
+pub fn run_all(alloc: Global, evaluator: &Evaluator<'_>, tape: &Tape) -> Result<Trace, OutOfMemory>
+    requires { cycles_of tape.now * evaluator.now.net.channels < 2 ^ 32 }
     ensures cycles { IfOk result (λ trace. trace.cycles ≡ cycles_of tape.now) }
-    ensures moves { IfOk result (λ trace. AreMovesOfRun design.now.net tape.now trace.moves.items) }
+    ensures moves { IfOk result (λ trace. AreMovesOfRun evaluator.now.net tape.now trace.moves.items) }
 {
     xm_order::one_run();
-    design.is_designed();
-    let mut state = reset(alloc, design)?;
-    run_round(alloc, design, tape, &mut state, 0, tape.cycles())
+    let mut state = reset(alloc, evaluator.design())?;
+    run_round(alloc, evaluator, tape, &mut state, 0, tape.cycles())
 }

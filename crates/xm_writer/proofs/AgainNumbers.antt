@@ -17,7 +17,7 @@ use Rattle.xm_netlist.specs.Valid.{DiffersIn, are_distinct, channel_uses, first_
 use Rattle.xm_writer.proofs.AgainMaps.{images_again}
 use Rattle.xm_writer.proofs.AgainMarks.{marks_again}
 use Rattle.xm_writer.proofs.AgainNames.{all_names, first_uses-map, number_again}
-use Rattle.xm_writer.proofs.AgainParts.{form_read, named_by, primitive_read}
+use Rattle.xm_writer.proofs.AgainParts.{kind_read, named_by, primitive_read}
 
 -- the primitives from number p on, by their names
 abbrev pub primitives_read : Naming → ℕ → List Component → List NamedPrimitive
@@ -39,7 +39,7 @@ module _ (names : Naming) (channels : are_distinct names.channels ≡ true) (col
   channel : (c : ℕ) → c < length names.channels → number_in names.channels (name_at names.channels c) ≡ c
   channel c lt = number_again names.channels c channels lt
 
-  pub component_again : (m : Component) → Fits names m → component_in names.channels names.colours (form_read names m) ≡ m
+  pub component_again : (m : Component) → Fits names m → component_in names.channels names.colours (kind_read names m) ≡ m
   component_again (Source out ds mode) f = rw (channel out (f.ports 0 0 (omega arith)), numbers_again names.colours ds colours f.fits.2) refl
   component_again (Sink input mode) f = rw (channel input (f.ports 0 0 (omega arith))) refl
   component_again (Queue input out capacity initial) f =

@@ -33,18 +33,18 @@ abbrev pub named_by : List Name → List ℕ → List Name
 named_by names is = map (name_at names) is
 
 -- what is read of a component that was written
-abbrev pub form_read : Naming → Component → NamedKind
-form_read names (Source out colours mode) = source (name_at names.channels out) (named_by names.colours colours) mode
-form_read names (Sink input mode) = sink (name_at names.channels input) mode
-form_read names (Queue input out capacity initial) = queue (name_at names.channels input) (name_at names.channels out) capacity (named_by names.colours initial)
-form_read names (Function input out table) = function (name_at names.channels input) (name_at names.channels out) (table_of names.colours table)
-form_read names (Fork input a b table_a table_b) = fork (name_at names.channels input) (name_at names.channels a) (name_at names.channels b) (table_of names.colours table_a) (table_of names.colours table_b)
-form_read names (Join a b out pass) = join (name_at names.channels a) (name_at names.channels b) (name_at names.channels out) pass
-form_read names (Switch input a b to_a) = switch (name_at names.channels input) (name_at names.channels a) (name_at names.channels b) (named_by names.colours (marked_from 0 to_a))
-form_read names (Merge a b out) = merge (name_at names.channels a) (name_at names.channels b) (name_at names.channels out)
+abbrev pub kind_read : Naming → Component → NamedKind
+kind_read names (Source out colours mode) = source (name_at names.channels out) (named_by names.colours colours) mode
+kind_read names (Sink input mode) = sink (name_at names.channels input) mode
+kind_read names (Queue input out capacity initial) = queue (name_at names.channels input) (name_at names.channels out) capacity (named_by names.colours initial)
+kind_read names (Function input out table) = function (name_at names.channels input) (name_at names.channels out) (table_of names.colours table)
+kind_read names (Fork input a b table_a table_b) = fork (name_at names.channels input) (name_at names.channels a) (name_at names.channels b) (table_of names.colours table_a) (table_of names.colours table_b)
+kind_read names (Join a b out pass) = join (name_at names.channels a) (name_at names.channels b) (name_at names.channels out) pass
+kind_read names (Switch input a b to_a) = switch (name_at names.channels input) (name_at names.channels a) (name_at names.channels b) (named_by names.colours (marked_from 0 to_a))
+kind_read names (Merge a b out) = merge (name_at names.channels a) (name_at names.channels b) (name_at names.channels out)
 
 abbrev pub primitive_read : Naming → Name → Component → NamedPrimitive
-primitive_read names name m = record { name = name; form = form_read names m }
+primitive_read names name m = record { name = name; kind = kind_read names m }
 
 -- ---- lists and maps
 
@@ -91,14 +91,14 @@ queue_again version newer path names name input out capacity (d ∷ ds) is packe
 
 function_again : (version : ℕ) (path : List ℕ) (name input out : Name) (t : Table)
     → primitive_at version path (object (member (codes "in") (string input) (member (codes "kind") (string (codes "function")) (member_if (codes "map") (object_if (members_from string t)) (member (codes "name") (string name) (member (codes "out") (string out) no_members))))))
-    ≡ Ok (record { name = name; form = function input out t })
+    ≡ Ok (record { name = name; kind = function input out t })
 unfolding primitive_at kind_text_in primitive_of function_in text_member table_member only
 function_again version path name input out [] = refl
 function_again version path name input out (e ∷ t) = rw (table_again (member_of path (codes "map")) (e ∷ t)) refl
 
 fork_again : (version : ℕ) (path : List ℕ) (name input a b : Name) (ta tb : Table)
     → primitive_at version path (object (member (codes "a") (string a) (member (codes "b") (string b) (member (codes "in") (string input) (member (codes "kind") (string (codes "fork")) (member_if (codes "map_a") (object_if (members_from string ta)) (member_if (codes "map_b") (object_if (members_from string tb)) (member (codes "name") (string name) no_members))))))))
-    ≡ Ok (record { name = name; form = fork input a b ta tb })
+    ≡ Ok (record { name = name; kind = fork input a b ta tb })
 unfolding primitive_at kind_text_in primitive_of fork_in text_member table_member only
 fork_again version path name input a b [] [] = refl
 fork_again version path name input a b [] (f ∷ tb) = rw (table_again (member_of path (codes "map_b")) (f ∷ tb)) refl

@@ -17,7 +17,7 @@ use Rattle.xm_json.specs.Path.{place_of}
 use Rattle.xm_json.specs.Holding.{each_holds, each_holds_from}
 use Rattle.xm_shape.specs.Names.{Name, is_among, is_colour_name, is_name}
 use Rattle.xm_shape.specs.Shape.{net}
-use Rattle.xm_netlist.specs.Checks.{check_all_known, check_colour_name, check_colours, check_entry_colours, check_form_colours, check_sizes, name_of, check_names, check_offers, check_packets, check_primitive_colours, check_primitive_name, check_port_names, check_room, check_table}
+use Rattle.xm_netlist.specs.Checks.{check_all_known, check_colour_name, check_colours, check_entry_colours, check_kind_colours, check_sizes, name_of, check_names, check_offers, check_packets, check_primitive_colours, check_primitive_name, check_port_names, check_room, check_table}
 use Rattle.xm_netlist.specs.Valid.{AreNames, are_distinct}
 use Rattle.xm_writer.proofs.AgainAllow.{allowing_of}
 use Rattle.xm_writer.proofs.AgainLists.{all_at, every_at, holds}
@@ -38,9 +38,9 @@ module _ (names : Naming) where
   channel_formed c formed lt = all_at is_name names.channels c (name_at names.channels c) (name_is names.channels c lt) formed
 
   HasPorts : NamedPrimitive → Type 0
-  HasPorts primitive = (path : List ℕ) → check_port_names path (ports_of primitive.form) ≡ Ok tt
+  HasPorts primitive = (path : List ℕ) → check_port_names path (ports_of primitive.kind) ≡ Ok tt
 
-  ports_formed : list_all is_name names.channels ≡ true → (name : Name) (m : Component) → Fits names m → (path : List ℕ) → check_port_names path (ports_of (primitive_read names name m).form) ≡ Ok tt
+  ports_formed : list_all is_name names.channels ≡ true → (name : Name) (m : Component) → Fits names m → (path : List ℕ) → check_port_names path (ports_of (primitive_read names name m).kind) ≡ Ok tt
   ports_formed formed name (Source out ds mode) f path = rw (channel_formed out formed (f.ports 0 0 (omega arith))) refl
   ports_formed formed name (Sink input mode) f path = rw (channel_formed input formed (f.ports 0 0 (omega arith))) refl
   ports_formed formed name (Queue input out capacity initial) f path = rw (channel_formed input formed (f.ports 0 0 (omega arith)), channel_formed out formed (f.ports 1 0 (omega arith))) refl
@@ -57,12 +57,12 @@ module _ (names : Naming) where
   module _ (ms : List Component) (all : All (Fits names) ms) where
     check_primitive_names : AreNames is_name names.prims → list_all is_name names.channels ≡ true → length names.prims ≡ length ms → each_holds (check_primitive_name (primitives_read names 0 ms)) (primitives_read names 0 ms) ≡ Ok tt
     check_primitive_names are formed long =
-        let ports = each_part names (λ primitive. (path : List ℕ) → check_port_names path (ports_of primitive.form) ≡ Ok tt) (Fits names) (ports_formed formed) 0 ms all in
+        let ports = each_part names (λ primitive. (path : List ℕ) → check_port_names path (ports_of primitive.kind) ≡ Ok tt) (Fits names) (ports_formed formed) 0 ms all in
         holds (check_primitive_name (primitives_read names 0 ms)) 0 (primitives_read names 0 ms) (λ j k primitive e at.
         let same : j ≡ k = omega arith in
         let here : slice_get names.prims k ≡ Some primitive.name = ap (λ l. slice_get l k) (sym (prims_again names ms long)) ∙ slice_get-map name_of (primitives_read names 0 ms) k ∙ ap (option_map name_of) at in
         let before : is_among (map name_of (take k (primitives_read names 0 ms))) primitive.name ≡ false = ap (λ l. is_among l primitive.name) (sym (take-map name_of k (primitives_read names 0 ms)) ∙ ap (take k) (prims_again names ms long)) ∙ distinct_before names.prims k primitive.name are.distinct here in
-        rw (same, all_at is_name names.prims k primitive.name here are.formed, before) (every_at (λ primitive. (path : List ℕ) → check_port_names path (ports_of primitive.form) ≡ Ok tt) (primitives_read names 0 ms) k primitive at ports (place_of net k)))
+        rw (same, all_at is_name names.prims k primitive.name here are.formed, before) (every_at (λ primitive. (path : List ℕ) → check_port_names path (ports_of primitive.kind) ≡ Ok tt) (primitives_read names 0 ms) k primitive at ports (place_of net k)))
 
     pub named_again : (allow : List AllowEntry) → AreNames is_colour_name names.colours → AreNames is_name names.prims → list_all is_name names.channels ≡ true → length names.prims ≡ length ms
         → check_names (record { colours = names.colours; primitives = primitives_read names 0 ms; allow = allow }) ≡ Ok tt
@@ -88,28 +88,28 @@ table_is_known colours path [] all = refl
 table_is_known colours path (e ∷ t) all = let first = all.0 in rw (first.0, first.1) (table_is_known colours path t all.1)
 
 module _ (names : Naming) (colours : are_distinct names.colours ≡ true) where
-  form_known : (name : Name) (m : Component) → Fits names m → (path : List ℕ) → check_form_colours names.colours path (primitive_read names name m).form ≡ Ok tt
-  form_known name (Source out ds mode) f path =
+  kind_known : (name : Name) (m : Component) → Fits names m → (path : List ℕ) → check_kind_colours names.colours path (primitive_read names name m).kind ≡ Ok tt
+  kind_known name (Source out ds mode) f path =
       let known = known_names names.colours ds f.fits.2 in
       let distinct = distinct-map names.colours colours ds f.fits.2 f.differs in
       holds _ 0 (named_by names.colours ds) (λ j k x e at. let same : j ≡ k = omega arith in
       rw (every_at (λ (n : Name). is_among names.colours n ≡ true) (named_by names.colours ds) k x at known, same, distinct_before (named_by names.colours ds) k x distinct at) refl)
-  form_known name (Sink input mode) f path = refl
-  form_known name (Queue input out capacity initial) f path = all_are_known names.colours _ (named_by names.colours initial) (known_names names.colours initial f.fits.3)
-  form_known name (Function input out table) f path = table_is_known names.colours _ _ (table_names names.colours colours table f.fits.0 f.fits.1)
-  form_known name (Fork input a b ta tb) f path =
+  kind_known name (Sink input mode) f path = refl
+  kind_known name (Queue input out capacity initial) f path = all_are_known names.colours _ (named_by names.colours initial) (known_names names.colours initial f.fits.3)
+  kind_known name (Function input out table) f path = table_is_known names.colours _ _ (table_names names.colours colours table f.fits.0 f.fits.1)
+  kind_known name (Fork input a b ta tb) f path =
       rw (table_is_known names.colours _ _ (table_names names.colours colours ta f.fits.0.0 f.fits.0.1)) (table_is_known names.colours _ _ (table_names names.colours colours tb f.fits.1.0 f.fits.1.1))
-  form_known name (Join a b out pass) f path = refl
-  form_known name (Switch input a b to_a) f path = all_are_known names.colours _ _ (known_names names.colours _ (marked_within (length names.colours) 0 to_a (let l = f.fits in omega arith)))
-  form_known name (Merge a b out) f path = refl
+  kind_known name (Join a b out pass) f path = refl
+  kind_known name (Switch input a b to_a) f path = all_are_known names.colours _ _ (known_names names.colours _ (marked_within (length names.colours) 0 to_a (let l = f.fits in omega arith)))
+  kind_known name (Merge a b out) f path = refl
 
   pub coloured_again : (ms : List Component) → All (Fits names) ms → (t : List (Name × List Name)) → AllByRecursion (λ (e : Name × List Name). AreKnown names.colours e.1) t
       → check_colours (record { colours = names.colours; primitives = primitives_read names 0 ms; allow = map allowing_of t }) ≡ Ok tt
   unfolding check_colours
   coloured_again ms all t known =
-      let forms = each_part names (λ primitive. (path : List ℕ) → check_form_colours names.colours path primitive.form ≡ Ok tt) (Fits names) form_known 0 ms all in
+      let forms = each_part names (λ primitive. (path : List ℕ) → check_kind_colours names.colours path primitive.kind ≡ Ok tt) (Fits names) kind_known 0 ms all in
       let primitives : each_holds (check_primitive_colours names.colours) (primitives_read names 0 ms) ≡ Ok tt =
-      holds (check_primitive_colours names.colours) 0 (primitives_read names 0 ms) (λ j k primitive e at. every_at (λ primitive. (path : List ℕ) → check_form_colours names.colours path primitive.form ≡ Ok tt) (primitives_read names 0 ms) k primitive at forms (place_of net j)) in
+      holds (check_primitive_colours names.colours) 0 (primitives_read names 0 ms) (λ j k primitive e at. every_at (λ primitive. (path : List ℕ) → check_kind_colours names.colours path primitive.kind ≡ Ok tt) (primitives_read names 0 ms) k primitive at forms (place_of net j)) in
       rw primitives (entries_known 0 t known)
     where
       entries_known : (i : ℕ) (t : List (Name × List Name)) → AllByRecursion (λ (e : Name × List Name). AreKnown names.colours e.1) t → each_holds_from (check_entry_colours names.colours) i (map allowing_of t) ≡ Ok tt
@@ -119,28 +119,28 @@ module _ (names : Naming) (colours : are_distinct names.colours ≡ true) where
 -- ---- sizes
 
 module _ (names : Naming) (ms : List Component) (all : All (Fits names) ms) where
-  offers_fit : (name : Name) (m : Component) → Fits names m → check_offers (primitive_read names name m).form ≡ Ok tt
+  offers_fit : (name : Name) (m : Component) → Fits names m → check_offers (primitive_read names name m).kind ≡ Ok tt
   offers_fit name (Source out ds mode) f =
       let long = length-map ds (name_at names.colours) in
       let low = f.fits.0 in let high = f.fits.1 in
       rw (long, le-leb 1 (length ds) (omega arith), le-leb (length ds) most_source_colours (omega arith)) refl
   offers_fit name _ f = refl
 
-  room_fits : (name : Name) (m : Component) → Fits names m → check_room (primitive_read names name m).form ≡ Ok tt
+  room_fits : (name : Name) (m : Component) → Fits names m → check_room (primitive_read names name m).kind ≡ Ok tt
   room_fits name (Queue input out capacity initial) f = let low = f.fits.0 in let high = f.fits.1 in rw (le-leb 1 capacity (omega arith), le-leb capacity most_capacity (omega arith)) refl
   room_fits name _ f = refl
 
-  packets_fit : (name : Name) (m : Component) → Fits names m → check_packets (primitive_read names name m).form ≡ Ok tt
+  packets_fit : (name : Name) (m : Component) → Fits names m → check_packets (primitive_read names name m).kind ≡ Ok tt
   packets_fit name (Queue input out capacity initial) f =
       let long = length-map initial (name_at names.colours) in
       let few = f.fits.2 in
       rw (long, le-leb 0 (length initial) (omega arith), le-leb (length initial) capacity few) refl
   packets_fit name _ f = refl
 
-  each_sized : (test : NamedKind → Result ⊤ Fault) → ((name : Name) (m : Component) → Fits names m → test (primitive_read names name m).form ≡ Ok tt) → each_holds (λ i primitive. test primitive.form) (primitives_read names 0 ms) ≡ Ok tt
+  each_sized : (test : NamedKind → Result ⊤ Fault) → ((name : Name) (m : Component) → Fits names m → test (primitive_read names name m).kind ≡ Ok tt) → each_holds (λ i primitive. test primitive.kind) (primitives_read names 0 ms) ≡ Ok tt
   each_sized test one =
-      let passes = each_part names (λ primitive. test primitive.form ≡ Ok tt) (Fits names) one 0 ms all in
-      holds (λ i primitive. test primitive.form) 0 (primitives_read names 0 ms) (λ j k primitive e at. every_at (λ primitive. test primitive.form ≡ Ok tt) (primitives_read names 0 ms) k primitive at passes)
+      let passes = each_part names (λ primitive. test primitive.kind ≡ Ok tt) (Fits names) one 0 ms all in
+      holds (λ i primitive. test primitive.kind) 0 (primitives_read names 0 ms) (λ j k primitive e at. every_at (λ primitive. test primitive.kind ≡ Ok tt) (primitives_read names 0 ms) k primitive at passes)
 
   pub limited_again : (allow : List AllowEntry) (channels : ℕ) → length (channel_names (primitives_read names 0 ms)) ≡ channels → 0 < channels → channels ≤ most_channels → 0 < length names.colours → length names.colours ≤ most_colours → 0 < length ms → length ms ≤ most_primitives
       → sum_by capacity_of ms ≤ most_capacities → check_sizes (record { colours = names.colours; primitives = primitives_read names 0 ms; allow = allow }) ≡ Ok tt

@@ -42,6 +42,7 @@ abbrev pub IsRefusedAs : List ℕ → Command → Refusal → Type 0
 IsRefusedAs bytes it (refusal.Document line) = Refuses bytes it 3 line.items
 IsRefusedAs bytes it (refusal.Net line) = Refuses bytes it 4 line.items
 IsRefusedAs bytes it (refusal.Tape line) = Refuses bytes it 5 line.items
+IsRefusedAs bytes it (refusal.Overflow line) = Refuses bytes it 8 line.items
 IsRefusedAs bytes it refusal.Memory = Unit {0}
 IsRefusedAs bytes it _ = ⊥
 

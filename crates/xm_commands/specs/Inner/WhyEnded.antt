@@ -49,6 +49,7 @@ abbrev pub IsCause : {K : Type 0} → List ℕ → Command → Change K → Refu
 IsCause bytes it sink (refusal.Document line) = Refuses bytes it 3 line.items × IsUntouched sink
 IsCause bytes it sink (refusal.Net line) = Refuses bytes it 4 line.items × IsUntouched sink
 IsCause bytes it sink (refusal.Tape line) = Refuses bytes it 5 line.items × IsUntouched sink
+IsCause bytes it sink (refusal.Overflow line) = Refuses bytes it 8 line.items × IsUntouched sink
 IsCause bytes it sink refusal.Write =
     Rose sink.faults_before sink.faults_after × PrintsSome bytes it sink.bytes_before sink.bytes_after
 IsCause bytes it sink refusal.Memory =
@@ -77,6 +78,7 @@ IsWhy it source sink refusal.Words = ⊥
 IsWhy it source sink (refusal.Document line) = IsInputRefused it source sink 3 line.items
 IsWhy it source sink (refusal.Net line) = IsInputRefused it source sink 4 line.items
 IsWhy it source sink (refusal.Tape line) = IsInputRefused it source sink 5 line.items
+IsWhy it source sink (refusal.Overflow line) = IsInputRefused it source sink 8 line.items
 IsWhy it source sink refusal.Read =
     Rose source.faults_before source.faults_after × TakesAtMost most_bytes source.bytes_before source.bytes_after
     × IsUntouched sink

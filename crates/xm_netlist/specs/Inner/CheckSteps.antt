@@ -20,7 +20,7 @@ abbrev pub check_primitive_after : List Name → ℕ → NamedPrimitive → Resu
 check_primitive_after before i primitive = do
   _ ← check (is_name primitive.name) (bad_name (member_of (place_of net i) (codes "name")))
   _ ← check (not (is_among before primitive.name)) (same_name (member_of (place_of net i) (codes "name")))
-  check_port_names (place_of net i) (ports_of primitive.form)
+  check_port_names (place_of net i) (ports_of primitive.kind)
 
 abbrev pub check_offered_after : List Name → List ℕ → List Name → ℕ → Name → Result ⊤ Fault
 check_offered_after colours path before i name = do

@@ -36,12 +36,12 @@ pub record AreFew (numbers : Numbers) : Type 0 where
   pub channels : length numbers.channels.keys ≤ most_channels
   pub colours : length numbers.colours.keys ≤ most_colours
 
--- the primitive of a form, and of a primitive by its names
+-- the primitive of a kind, and of a primitive by its names
 abbrev pub numbered_component : Numbers → NamedKind → Component
-numbered_component numbers form = component_in (names_of numbers.channels.keys) (names_of numbers.colours.keys) form
+numbered_component numbers kind = component_in (names_of numbers.channels.keys) (names_of numbers.colours.keys) kind
 
 abbrev pub numbered_primitive : Numbers → NamedPrimitive → Component
-numbered_primitive numbers primitive = numbered_component numbers primitive.form
+numbered_primitive numbers primitive = numbered_component numbers primitive.kind
 
 -- the slots of channels, each with the colours of its entry
 abbrev pub slot_of : Numbers → Option (Bor AllowEntry) → Option (List ℕ)

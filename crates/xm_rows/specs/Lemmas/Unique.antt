@@ -158,7 +158,7 @@ times_none : (d : ℕ) (z : ℤ) → 0 < d → pos d *ℤ z ≡ pos 0 → z ≡ 
 times_none d z some h = one_factor (pos d) z (pos 0) (positive d some) (h ∙ sym (*ℤ-zero (pos d)))
 
 -- one row in lowest terms, or nothing but zeros, of which another is a multiple
-one_reduced : (d e : ℕ) (t u : SparseRow) → 0 < d → 0 < e → IsRow t → IsRow u → IsReduced t → IsReduced u → ((k : ℕ) → pos d *ℤ numbers t k ≡ pos e *ℤ numbers u k) → t ≡ u
+pub one_reduced : (d e : ℕ) (t u : SparseRow) → 0 < d → 0 < e → IsRow t → IsRow u → IsReduced t → IsReduced u → ((k : ℕ) → pos d *ℤ numbers t k ≡ pos e *ℤ numbers u k) → t ≡ u
 one_reduced d e t u some_d some_e row_t row_u (inl low_t) (inl low_u) h =
     let r = root (d + e) d e (numbers t) (numbers u) (omega arith) some_d some_e h in
     let a = factor_one t r.a r.s row_t low_t r.first in

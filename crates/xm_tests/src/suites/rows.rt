@@ -6,11 +6,11 @@ use std::test::Fail;
 use xm_model::OutOfMemory;
 use xm_rows::{CancelFault, Entry, Row, cancel, dot, primitive};
 
-const EDGE: i128 = i128::MAX;
+pub const EDGE: i128 = i128::MAX;
 
-const HALF: i128 = 0x4000_0000_0000_0000_0000_0000_0000_0000;
+pub const HALF: i128 = 0x4000_0000_0000_0000_0000_0000_0000_0000;
 
-fn at(column: u32, value: i128) -> Entry {
+pub fn at(column: u32, value: i128) -> Entry {
     Entry { column, value }
 }
 
@@ -34,20 +34,20 @@ fn row(
 
 /// A row by its entries and its constant.
 #[derive(Clone, Copy)]
-struct RowParts<'a> {
+pub struct RowParts<'a> {
     entries: &'a [Entry],
     constant: i128,
 }
 
-fn of(entries: &[Entry], constant: i128) -> RowParts<'_> {
+pub fn of(entries: &[Entry], constant: i128) -> RowParts<'_> {
     RowParts { entries, constant }
 }
 
-fn row_of(rt: &impl Abort, alloc: Global, it: RowParts) -> Result<Row, OutOfMemory> {
+pub fn row_of(rt: &impl Abort, alloc: Global, it: RowParts) -> Result<Row, OutOfMemory> {
     row(rt, alloc, it.entries, it.constant)
 }
 
-fn is_row(t: &Row, wanted: RowParts) -> bool {
+pub fn is_row(t: &Row, wanted: RowParts) -> bool {
     t.entries() == wanted.entries && t.constant() == wanted.constant
 }
 

@@ -5,7 +5,7 @@ use super::nets::{ROW, design_of};
 use std::alloc::Global;
 use xm_design::Design;
 use xm_model::{List, Names, OutOfMemory, Text};
-use xm_step::reset;
+use xm_step::{Evaluator, reset};
 use xm_tape::Tape;
 use xm_trace::{Move, RunText, Total, Trace, rounds_follow, run_all, run_round, trace_text};
 
@@ -30,13 +30,17 @@ struct Round<'a> {
 }
 
 /// The moves of the tape's run, made at once, where the run is short.
-fn trace_of(alloc: Global, design: &Design, tape: &Tape) -> Result<Option<Trace>, OutOfMemory> {
-    let net = design.net();
+fn trace_of(
+    alloc: Global,
+    evaluator: &Evaluator<'_>,
+    tape: &Tape,
+) -> Result<Option<Trace>, OutOfMemory> {
+    let net = evaluator.design().net();
     net.is_net();
     if tape.cycles() > 10_000 {
         return Ok(None);
     }
-    Ok(Some(run_all(alloc, design, tape)?))
+    Ok(Some(run_all(alloc, evaluator, tape)?))
 }
 
 /// The text of these moves.
@@ -83,12 +87,12 @@ fn agrees(alloc: Global, names: &Names, trace: &Trace, round: Round) -> bool {
 
 fn agrees_at_once(
     alloc: Global,
-    design: &Design,
+    evaluator: &Evaluator<'_>,
     tape: &Tape,
     names: &Names,
     round: Round,
 ) -> bool {
-    match trace_of(alloc, design, tape) {
+    match trace_of(alloc, evaluator, tape) {
         Ok(Some(trace)) => agrees(alloc, names, &trace, round),
         _ => false,
     }
@@ -139,7 +143,14 @@ fn has_sums(alloc: Global, told: &RunText, moves: &[Move]) -> bool {
 
 /// Whether the tape's run, made as one round and made at once, is that of the case, where the names are those
 /// of the design and the run is short.
-fn is_run_of(alloc: Global, design: &Design, tape: &Tape, names: &Names, case: Case) -> bool {
+fn is_run_of(
+    alloc: Global,
+    evaluator: &Evaluator<'_>,
+    tape: &Tape,
+    names: &Names,
+    case: Case,
+) -> bool {
+    let design = evaluator.design();
     let net = design.net();
     net.is_net();
     if names.channels.len() != net.channels() as usize {
@@ -158,7 +169,7 @@ fn is_run_of(alloc: Global, design: &Design, tape: &Tape, names: &Names, case: C
     let Ok(mut told) = RunText::new(alloc, design) else {
         return false;
     };
-    let Ok(trace) = run_round(alloc, design, tape, &mut state, 0, tape.cycles()) else {
+    let Ok(trace) = run_round(alloc, evaluator, tape, &mut state, 0, tape.cycles()) else {
         return false;
     };
     match (told.add(alloc, names, &trace), told.end(alloc, names)) {
@@ -170,14 +181,23 @@ fn is_run_of(alloc: Global, design: &Design, tape: &Tape, names: &Names, case: C
             };
             is_in(round, case)
                 && has_sums(alloc, &told, trace.moves.as_slice())
-                && agrees_at_once(alloc, design, tape, names, round)
+                && agrees_at_once(alloc, evaluator, tape, names, round)
         }
         _ => false,
     }
 }
 
+fn is_run_by(alloc: Global, evaluator: &Evaluator<'_>, names: &Names, case: Case) -> bool {
+    tape_in(alloc, evaluator.design(), case).is_some_and(|tape| is_run_of(
+        alloc, evaluator, &tape, names, case,
+    ))
+}
+
 fn is_run(alloc: Global, design: &Design, names: &Names, case: Case) -> bool {
-    tape_in(alloc, design, case).is_some_and(|tape| is_run_of(alloc, design, &tape, names, case))
+    match Evaluator::new(alloc, design) {
+        Ok(evaluator) => is_run_by(alloc, &evaluator, names, case),
+        Err(OutOfMemory) => false,
+    }
 }
 
 fn row_is_run(alloc: Global, names: &Names, case: Case) -> bool {

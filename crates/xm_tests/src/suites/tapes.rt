@@ -4,7 +4,7 @@ use super::nets::{Piece, ROW, design_of};
 use serde_json::Value;
 use std::alloc::Global;
 use xm_design::Design;
-use xm_model::{Choice, SinkMode, SourceMode};
+use xm_model::{Choice, OutOfMemory, SinkMode, SourceMode};
 use xm_tape::{Tape, TapeFault, read_tape};
 
 /// A tape takes at most 4 bytes a choice.
@@ -99,34 +99,36 @@ fn the_first_fault_is_told(rt: HostRuntime) {
     assert!(rt; design.is_some_and(|design| all_cases_hold(alloc, &design)));
 }
 
-/// Whether the choices of these two cycles are the same.
-fn comes_again(tape: &Tape, t: u32, u: u32) -> bool {
-    t < tape.cycles() && u < tape.cycles() && tape.at(t) == tape.at(u)
-}
-
-fn chooses(tape: &Tape, t: u32, expected: &[Choice]) -> bool {
-    t < tape.cycles() && tape.at(t) == expected
+/// Whether cycle `t` has these choices.
+fn chooses(alloc: Global, tape: &Tape, t: u32, expected: &[Choice]) -> bool {
+    if t >= tape.cycles() {
+        return false;
+    }
+    match tape.rows(alloc, t) {
+        Ok(rows) => rows.row() == expected,
+        Err(OutOfMemory) => false,
+    }
 }
 
 /// Whether the first cycle has these choices, the second none, and the third those of the first, as far as
 /// the tape goes.
-fn goes_on_from(tape: &Tape, first: &[Choice]) -> bool {
+fn goes_on_from(alloc: Global, tape: &Tape, first: &[Choice]) -> bool {
     let idle = [Choice::Offer(None), Choice::Ready(false)];
-    chooses(tape, 0, first)
-        && (tape.cycles() < 2 || chooses(tape, 1, &idle))
-        && (tape.cycles() < 4 || comes_again(tape, 2, 0))
+    chooses(alloc, tape, 0, first)
+        && (tape.cycles() < 2 || chooses(alloc, tape, 1, &idle))
+        && (tape.cycles() < 4 || chooses(alloc, tape, 2, first))
 }
 
-fn begins_with(read: &Result<Tape, TapeFault>, first: &[Choice]) -> bool {
+fn begins_with(alloc: Global, read: &Result<Tape, TapeFault>, first: &[Choice]) -> bool {
     match read {
-        Ok(tape) => goes_on_from(tape, first),
+        Ok(tape) => goes_on_from(alloc, tape, first),
         Err(_) => false,
     }
 }
 
 fn reads_on_from(alloc: Global, design: &Design, text: &str, first: &[Choice]) -> bool {
     let value = Value::from_str(alloc, text);
-    value.is_ok_and(|value| begins_with(&read_tape(alloc, design, Some(&value)), first))
+    value.is_ok_and(|value| begins_with(alloc, &read_tape(alloc, design, Some(&value)), first))
 }
 
 /// Tapes as JSON, and the choices of their first cycles.
@@ -171,8 +173,17 @@ fn draws_four(alloc: Global, design: &Design) -> bool {
     let net = design.net();
     net.is_net();
     match Tape::seeded(alloc, design, 2, 0) {
-        Ok(tape) => chooses(&tape, 0, &[Choice::Offer(Some(0)), Choice::Ready(false)])
-            && chooses(&tape, 1, &[Choice::Offer(Some(11)), Choice::Ready(false)]),
+        Ok(tape) => chooses(
+            alloc,
+            &tape,
+            0,
+            &[Choice::Offer(Some(0)), Choice::Ready(false)],
+        ) && chooses(
+            alloc,
+            &tape,
+            1,
+            &[Choice::Offer(Some(11)), Choice::Ready(false)],
+        ),
         Err(_) => false,
     }
 }

@@ -8,6 +8,7 @@ use xm_design::Design;
 use xm_io::{CleanSource, MemSink, MemSource, Source, Words};
 use xm_model::{List, Names, OutOfMemory, Text};
 use xm_netlist::{Document, read_document};
+use xm_step::Evaluator;
 use xm_tape::{Tape, read_tape};
 use xm_trace::{run_all, trace_text};
 
@@ -121,9 +122,9 @@ fn is_printed(alloc: Global, line: &str, document: &str, text: &str) -> bool {
     is_answered(alloc, line, document, SOUND, answer)
 }
 
-/// Words, a document, and the output. What is printed of the last three was made by a program that was
-/// written apart from this one.
-const OUTPUTS: [(&str, &str, &str); 5] = [
+/// Words, a document, and the output. What is printed of the last three runs was made by a program that was
+/// written apart from this one, and the invariants were worked out by hand.
+const OUTPUTS: [(&str, &str, &str); 10] = [
     (
         "run",
         STREAM,
@@ -137,6 +138,11 @@ const OUTPUTS: [(&str, &str, &str); 5] = [
     ("run", MERGE_BOTH_AT_FIRST, MERGE_BOTH_AT_FIRST_PRINTED),
     ("run", DRAWN_ROWS, DRAWN_ROWS_PRINTED),
     ("run", ALL_MARKS, ALL_MARKS_PRINTED),
+    ("inv", FORK_JOIN, "inv 1*Qd.req -1*Qt.req = 0\nend 1\n"),
+    ("inv", NO_TAPE, "end 0\n"),
+    ("inv", CREDITS, "inv 1*Qd.req 1*Qc.req = 2\nend 1\n"),
+    ("inv", SELF_FED, "inv 1*Q.x = 1\nend 1\n"),
+    ("inv", UNSENT, "end 0\n"),
 ];
 
 fn all_are_printed(alloc: Global) -> bool {
@@ -160,11 +166,12 @@ fn outputs_are_printed(rt: HostRuntime) {
 }
 
 /// Words, a document, the status, and the line of error.
-const REFUSALS: [(&str, &str, u8, &str); 10] = [
+const REFUSALS: [(&str, &str, u8, &str); 11] = [
     ("", STREAM, 2, "words\n"),
     ("sim", STREAM, 2, "words\n"),
     ("check x", STREAM, 2, "words\n"),
     ("run --", STREAM, 2, "words\n"),
+    ("inv x", STREAM, 2, "words\n"),
     ("run", CUT, 3, "document: not JSON\n"),
     (
         "check",
@@ -258,7 +265,7 @@ fn wide(alloc: Global, fails: Option<u32>) -> Result<MemSink, OutOfMemory> {
     if let Some(call) = fails {
         calls.push(call)?;
     }
-    MemSink::new(alloc, 1_000_000, 1_000_000, calls)
+    MemSink::new(alloc, 2_000_000, 2_000_000, calls)
 }
 
 fn lines_of(bytes: &[u8]) -> usize {
@@ -280,15 +287,16 @@ fn leaves_lines(alloc: Global, call: u32, lines: usize) -> bool {
     }
 }
 
-/// A call of the output, and how many lines it holds where that call fails.
-const CUTS: [(u32, usize); 4] = [(0, 0), (1, 1024), (2, 2048), (3, 2500)];
+/// A call of the output, and how many lines it holds where that call fails: with two channels a round has
+/// 16,384 cycles.
+const CUTS: [(u32, usize); 4] = [(0, 0), (1, 16_384), (2, 32_768), (3, 40_000)];
 
 fn all_leave_their_lines(alloc: Global) -> bool {
     CUTS.iter().all(|case| leaves_lines(alloc, case.0, case.1))
 }
 
 #[test]
-fn rounds_of_1024_cycles_leave_one_by_one(rt: HostRuntime) {
+fn rounds_leave_one_by_one(rt: HostRuntime) {
     assert!(rt; all_leave_their_lines(rt.alloc()));
 }
 
@@ -307,12 +315,17 @@ fn rounds_write(alloc: Global, text: &[u8]) -> bool {
 }
 
 /// The text of the tape's run, made at once, where the names are few and the run is short.
-fn text_at_once(alloc: Global, design: &Design, names: &Names, tape: &Tape) -> Option<Text> {
-    design.net().is_net();
-    if names.channels.len() > 2 || names.colours.len() > 1 || tape.cycles() > 10_000 {
+fn text_at_once(
+    alloc: Global,
+    evaluator: &Evaluator<'_>,
+    names: &Names,
+    tape: &Tape,
+) -> Option<Text> {
+    evaluator.design().net().is_net();
+    if names.channels.len() > 2 || names.colours.len() > 1 || tape.cycles() > 40_000 {
         return None;
     }
-    match run_all(alloc, design, tape) {
+    match run_all(alloc, evaluator, tape) {
         Ok(trace) => trace_text(alloc, names, &trace).ok(),
         Err(OutOfMemory) => None,
     }
@@ -323,7 +336,8 @@ fn text_of_run(alloc: Global, document: Document) -> Option<Text> {
     let tape = document.tape;
     let design = Design::new(alloc, document.net, &document.allow).ok()?;
     let tape = read_tape(alloc, &design, tape.as_ref()).ok()?;
-    text_at_once(alloc, &design, &names, &tape)
+    let evaluator = Evaluator::new(alloc, &design).ok()?;
+    text_at_once(alloc, &evaluator, &names, &tape)
 }
 
 fn rounds_write_it(alloc: Global, document: Document) -> bool {
@@ -335,6 +349,26 @@ fn rounds_make_the_whole_text(rt: HostRuntime) {
     let alloc = rt.alloc();
     let document = read_document(alloc, THREE_ROUNDS.as_bytes());
     assert!(rt; document.is_ok_and(|document| rounds_write_it(alloc, document)));
+}
+
+fn writes_long_names(alloc: Global) -> bool {
+    match (
+        wide(alloc, None),
+        Text::from_bytes(alloc, LONG_NAMES.as_bytes()),
+    ) {
+        (Ok(mut out), Ok(document)) => writes(
+            alloc,
+            document,
+            &mut out,
+            LONG_NAMES_TEXT.as_bytes(),
+        ),
+        _ => false,
+    }
+}
+
+#[test]
+fn names_of_sixteen_bytes_and_more_are_written(rt: HostRuntime) {
+    assert!(rt; writes_long_names(rt.alloc()));
 }
 
 /// 64 spaces.

@@ -126,7 +126,7 @@ fn is_join(ports: Ports) -> bool {
 
 fn has_join_at(primitives: &[NamedPrimitive], place: usize) -> bool {
     match primitives.get(place) {
-        Some(primitive) => is_join(ports_of(&primitive.form)),
+        Some(primitive) => is_join(ports_of(&primitive.kind)),
         None => false,
     }
 }

@@ -10,7 +10,38 @@ pub const STREAM: &str =
 pub const THREE_ROUNDS: &str =
     r#"{"version":1,"colours":["req"],"net":[{"kind":"source","name":"S","out":"c0","colours":["req"]},
     {"kind":"queue","name":"Q","in":"c0","out":"c1","capacity":1},
-    {"kind":"sink","name":"K","in":"c1"}],"tape":{"cycles":2500,"seed":1}}"#;
+    {"kind":"sink","name":"K","in":"c1"}],"tape":{"cycles":40000,"seed":1}}"#;
+
+/// Names of 14 to 32 letters. What stands before the colour of a move on the first channel has 16 bytes.
+pub const LONG_NAMES: &str =
+    r#"{"version":1,"colours":["sixteen_letters_","seventeen_letters","a_colour_of_thirty_two_letters__"],"net":[
+    {"kind":"source","name":"S","out":"fourteen_chars","colours":["sixteen_letters_","seventeen_letters","a_colour_of_thirty_two_letters__"]},
+    {"kind":"queue","name":"P","in":"fourteen_chars","out":"fifteen_letters","capacity":1},
+    {"kind":"queue","name":"Q","in":"fifteen_letters","out":"sixteen_letters_","capacity":2},
+    {"kind":"queue","name":"R","in":"sixteen_letters_","out":"a_channel_of_thirty_two_letters_","capacity":2},
+    {"kind":"sink","name":"K","in":"a_channel_of_thirty_two_letters_"}],
+    "tape":{"rows":["01","11","11","21","21",".1",".1"]}}"#;
+
+/// The text of its run, made by a simulator in C++.
+pub const LONG_NAMES_TEXT: &str = "0 fourteen_chars:sixteen_letters_\n\
+    1 fifteen_letters:sixteen_letters_\n\
+    2 fourteen_chars:seventeen_letters sixteen_letters_:sixteen_letters_\n\
+    3 fifteen_letters:seventeen_letters a_channel_of_thirty_two_letters_:sixteen_letters_\n\
+    4 fourteen_chars:a_colour_of_thirty_two_letters__ sixteen_letters_:seventeen_letters\n\
+    5 fifteen_letters:a_colour_of_thirty_two_letters__ a_channel_of_thirty_two_letters_:seventeen_letters\n\
+    6 sixteen_letters_:a_colour_of_thirty_two_letters__\n\
+    sum fourteen_chars.sixteen_letters_ 1\n\
+    sum fourteen_chars.seventeen_letters 1\n\
+    sum fourteen_chars.a_colour_of_thirty_two_letters__ 1\n\
+    sum fifteen_letters.sixteen_letters_ 1\n\
+    sum fifteen_letters.seventeen_letters 1\n\
+    sum fifteen_letters.a_colour_of_thirty_two_letters__ 1\n\
+    sum sixteen_letters_.sixteen_letters_ 1\n\
+    sum sixteen_letters_.seventeen_letters 1\n\
+    sum sixteen_letters_.a_colour_of_thirty_two_letters__ 1\n\
+    sum a_channel_of_thirty_two_letters_.sixteen_letters_ 1\n\
+    sum a_channel_of_thirty_two_letters_.seventeen_letters 1\n\
+    end 7\n";
 
 /// A switch that sends its one colour to side b, and no tape.
 pub const SWITCH: &str =
@@ -121,3 +152,31 @@ pub const ALL_MARKS_PRINTED: &str = concat!(
     "sum c0.k10 1\nsum c0.k9 1\nsum c0.k8 1\nsum c0.k7 1\nsum c0.k6 1\nsum c0.k5 1\n",
     "sum c0.k4 1\nsum c0.k3 1\nsum c0.k2 1\nsum c0.k1 1\nsum c0.k0 1\nend 36\n"
 );
+
+/// A fork, a queue on each of its sides, and a join.
+pub const FORK_JOIN: &str =
+    r#"{"version":1,"colours":["req"],"net":[{"kind":"source","name":"S","out":"c0","colours":["req"]},
+    {"kind":"fork","name":"F","in":"c0","a":"c1","b":"c2"},
+    {"kind":"queue","name":"Qd","in":"c1","out":"c3","capacity":2},
+    {"kind":"queue","name":"Qt","in":"c2","out":"c4","capacity":2},
+    {"kind":"join","name":"J","a":"c3","b":"c4","out":"c5","pass":"a"},
+    {"kind":"sink","name":"K","in":"c5"}]}"#;
+
+/// Two credits that go round, and packets that go with one each.
+pub const CREDITS: &str = r#"{"version":2,"colours":["req"],"net":[
+    {"kind":"source","name":"S","out":"c0","colours":["req"],"mode":"eager"},
+    {"kind":"join","name":"J","a":"c0","b":"c5","out":"c1","pass":"a"},
+    {"kind":"queue","name":"Qd","in":"c1","out":"c2","capacity":2},
+    {"kind":"fork","name":"F","in":"c2","a":"c3","b":"c4"},
+    {"kind":"sink","name":"K","in":"c3"},
+    {"kind":"queue","name":"Qc","in":"c4","out":"c5","capacity":2,"initial":["req","req"]}]}"#;
+
+/// A queue that feeds itself, with one packet.
+pub const SELF_FED: &str = r#"{"version":2,"colours":["x"],"net":[
+    {"kind":"queue","name":"Q","in":"c0","out":"c0","capacity":2,"initial":["x"]}]}"#;
+
+/// A queue whose first packet has a colour that no source sends.
+pub const UNSENT: &str = r#"{"version":2,"colours":["x","y"],"net":[
+    {"kind":"source","name":"S","out":"c0","colours":["x"]},
+    {"kind":"queue","name":"Q","in":"c0","out":"c1","capacity":2,"initial":["y"]},
+    {"kind":"sink","name":"K","in":"c1"}]}"#;

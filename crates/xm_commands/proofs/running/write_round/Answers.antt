@@ -1,20 +1,16 @@
-use Rattle.std.proofs.Common.{◌<◌, ◌+◌, ◌^◌, arith}
-use Rattle.xm_commands.proofs.Fronts.{nothing_front, on_err}
+use Rattle.xm_commands.proofs.Fronts.{appends_same, front_same, nothing_front, on_err, on_err_goes, on_ok_goes}
+use Rattle.xm_commands.proofs.Rounds.{lines_alone}
 use Rattle.xm_commands.proofs.running.write_round.Goals as goal
-use Rattle.xm_trace.specs.Lemmas.Joining.{moved_next}
 
-pub add-requires-clause-follows : goal.add-requires-clause-follows
-add-requires-clause-follows g c =
-    let designed = c.net.ensures.design in
-    let run = c.args.run.now in
-    let part = c.in_ok-round.round in
-    let before = c.requires.underway in
-    let few : run.text.cycles + part.cycles < 2 ^ 32 = omega (arith, before.cycles, c.in_ok-round.ensures.cycles) in
-    c.rounds_follow.ensures c.args.design.now.net c.args.design.now.order c.args.tape.now run.text part.cycles part.moves.items designed.net designed.order before.channels before.had
-    (moved_next c.args.design.now.net c.args.tape.now run.text run.cycles _ part.cycles part.moves.items before.cycles c.in_ok-round.ensures.cycles c.in_ok-round.ensures.moves) few
+pub returns-in_err-run-clause-front : goal.returns-in_err-run-clause-front
+returns-in_err-run-clause-front g c = λ names s φ are run. on_err c.from_residual.result (nothing_front _ _)
 
-pub returns-in_err-round-clause-front : goal.returns-in_err-round-clause-front
-returns-in_err-round-clause-front g c = λ s φ run. on_err c.from_residual.result (nothing_front _ _)
+pub returns-clause-whole : goal.returns-clause-whole
+returns-clause-whole g c = λ names s φ are run.
+    let same = lines_alone names φ c.args.run.now.text.cycles c.run.new.self.cycles c.args.to _ c.run.new.lines.items c.as_bytes.result.now c.clear.ensures.items c.in_ok-run.ensures.come c.as_bytes.ensures (c.in_ok-run.ensures.lines names s φ are run) in
+    on_ok_goes c.write_bytes.result (λ h. appends_same _ _ _ _ same h) c.write_bytes.ensures.whole
 
-pub returns-in_err-lines-clause-front : goal.returns-in_err-lines-clause-front
-returns-in_err-lines-clause-front g c = λ s φ run. on_err c.from_residual-in_err-lines.result (nothing_front _ _)
+pub returns-clause-front : goal.returns-clause-front
+returns-clause-front g c = λ names s φ are run.
+    let same = lines_alone names φ c.args.run.now.text.cycles c.run.new.self.cycles c.args.to _ c.run.new.lines.items c.as_bytes.result.now c.clear.ensures.items c.in_ok-run.ensures.come c.as_bytes.ensures (c.in_ok-run.ensures.lines names s φ are run) in
+    on_err_goes c.write_bytes.result (λ h. front_same _ _ _ _ same h) c.write_bytes.ensures.front

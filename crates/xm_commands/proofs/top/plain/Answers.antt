@@ -60,7 +60,7 @@ returns-in-Err-clause-known g c = ap is_status c.refuse.ensures.status ∙ why_k
 
 pub returns-in-Err-clause-complete : goal.returns-in-Err-clause-complete
 returns-in-Err-clause-complete g c = λ it bytes text called is within output no_read no_write.
-    inr (c.refuse.ensures.status ∙ why_complete it (change g.S.Source.left g.S.Source.faults c.args.source.now c.obey_words.new.source) (change g.K.Sink.held g.K.Sink.faults c.args.out.now c.obey_words.new.out) c.no_loop.ensures bytes text is within output no_read no_write c.in-Err.refusal (why_called (change g.S.Source.left g.S.Source.faults c.args.source.now c.obey_words.new.source) (change g.K.Sink.held g.K.Sink.faults c.args.out.now c.obey_words.new.out) (command_of c.args.words.now) it c.in-Err.refusal called c.in-Err.ensures))
+    inr (c.refuse.ensures.status ∙ why_complete it (change g.S.Source.left g.S.Source.faults c.args.source.now c.obey_words.new.source) (change g.K.Sink.held g.K.Sink.faults c.args.out.now c.obey_words.new.out) c.no_loop.ensures c.ends_exclude.ensures bytes text is within output no_read no_write c.in-Err.refusal (why_called (change g.S.Source.left g.S.Source.faults c.args.source.now c.obey_words.new.source) (change g.K.Sink.held g.K.Sink.faults c.args.out.now c.obey_words.new.out) (command_of c.args.words.now) it c.in-Err.refusal called c.in-Err.ensures))
 
 pub returns-in-Ok-clause-unknown : goal.returns-in-Ok-clause-unknown
 returns-in-Ok-clause-unknown g c = λ none. absurd (some_called _ (command_of c.args.words.now) c.in-Ok.ensures.0 none)

@@ -6,7 +6,7 @@ use Rattle.xm_elim.proofs.pivot.taken_of.Goals as goal
 use Rattle.xm_elim.proofs.pivot.taken_of.Goals.{then-is_taken+in_ok-push, else-is_taken}
 
 pub loop-p-init : goal.loop-p-init
-loop-p-init c = taken_none c.args.rows.now c.args.column _ c.new-places.ensures.items
+loop-p-init c = taken_none c.args.rows.now c.args.column _ c.truncate.ensures.items
 
 pub loop-p-preserved : goal.loop-p-preserved
 loop-p-preserved c =

@@ -1,6 +1,6 @@
 use Rattle.std.proofs.Common.{◌≡◌, ◌∙◌, ◌+◌, length, refl}
 use Rattle.xm_model.specs.Naming.{naming_of}
-use Rattle.xm_trace.proofs.Lines.{ends_there, line_more}
+use Rattle.xm_trace.proofs.Cycles.{ends_there, line_more}
 use Rattle.xm_trace.proofs.text.push_round.Goals as goal
 
 pub loop-k-preserved : goal.loop-k-preserved

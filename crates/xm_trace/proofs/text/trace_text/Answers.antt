@@ -5,7 +5,7 @@ use Rattle.xm_model.specs.Naming.{naming_of}
 use Rattle.xm_trace.specs.Sums.{sum_at, sum_in}
 use Rattle.xm_trace.specs.Text.{end_line, sum_lines}
 use Rattle.xm_trace.specs.declared.trace.Move.{Move}
-use Rattle.xm_trace.proofs.Lines.{whole_text}
+use Rattle.xm_trace.proofs.Cycles.{whole_text}
 use Rattle.xm_trace.proofs.text.trace_text.Goals as goal
 
 pub returns : goal.returns

@@ -1,0 +1,464 @@
+//! Signals made by one operation.
+
+ghost use Rattle.std.specs.Prelude.{◌≡◌, ◌≢◌, ◌<◌, ◌&&◌, ◌||◌, [], ◌∷◌, ℕ, is_some, length, map, slice_get, List as Colours, Some};
+ghost use Rattle.xm_model.specs.Component.{Content, Fork, Function, Join, Merge, Queue, Sink, Source, Switch, component_of, content_of};
+ghost use Rattle.xm_model.specs.Signals.{at_side, grant, granted_offer, is_a, is_b, only_if, source_offer, through, to_side_a, to_side_b};
+ghost use Rattle.xm_model.specs.Views.{choice_or, content_at, signals_of};
+ghost use Rattle.xm_model.specs.declared.primitive.SourceMode.TheVariants as source_mode;
+ghost use Rattle.xm_model.specs.declared.state.Choice.{Choice as Chosen};
+ghost use Rattle.xm_order.specs.Dependence.{channel_of};
+ghost use Rattle.xm_order.specs.Settle.{ChangesOnly};
+ghost use Rattle.xm_order.specs.declared.signal.Signal.TheVariants as signal;
+ghost use Rattle.xm_plan.specs.Inner.Made.{AreMade, IsDone};
+ghost use Rattle.xm_plan.specs.Inner.Operations.{FitsOperation, Keeps, all_tasks, kept, table_a_in, table_b_in, table_in, to_a_in};
+ghost use Rattle.xm_plan.specs.Planned.{choice_for};
+ghost use Rattle.xm_plan.specs.Schedule.{ArePlaced, AreSettled, IsSchedule, LeavesOthers};
+ghost use Rattle.xm_plan.specs.declared.operation.Operation.{Operation as Op};
+
+use crate::cells::{chosen_offer, is_held, offer_in, packets, pending, preferred, ready_in};
+use crate::equations::{
+    granted, image, is_ready_sink, is_side_a, is_side_b, joined, offered, on_side_a, on_side_b,
+    only, readied, taken_from,
+};
+use crate::operation::Operation;
+use crate::row::choice_in_row;
+use xm_model::{Cell, Choice, Prim, Side, SinkMode, SourceMode, Wire};
+use xm_order::Signal;
+
+fn put_offer(wires: &mut [Wire], place: u32, offer: Option<u8>)
+    requires { place < length wires.old }
+    ensures value { (signals_of wires.new).offer place ≡ offer }
+    ensures only { ChangesOnly (signals_of wires.old) (signals_of wires.new) (signal.Offer place) }
+{
+    wires[place as usize].offer = offer;
+}
+
+fn put_ready(wires: &mut [Wire], place: u32, ready: bool)
+    requires { place < length wires.old }
+    ensures value { (signals_of wires.new).ready place ≡ ready }
+    ensures only { ChangesOnly (signals_of wires.old) (signals_of wires.new) (signal.Ready place) }
+{
+    wires[place as usize].ready = ready;
+}
+
+/// What a source offers that is not eager.
+fn plain_offer(mode: SourceMode, pending: Option<u8>, chosen: Option<u8>) -> Option<u8>
+    ensures { (colours : Colours ℕ) → mode ≢ source_mode.Eager
+        → result ≡ source_offer mode colours pending chosen }
+{
+    match mode {
+        SourceMode::Free => chosen,
+        SourceMode::Keep | SourceMode::Eager | SourceMode::Fair => pending.or(chosen),
+    }
+}
+
+fn make_source(cell: &Cell, choice: Choice, out: u32, mode: SourceMode, wires: &mut [Wire])
+    requires { out < length wires.old }
+    ensures { (colours : Colours ℕ) → mode ≢ source_mode.Eager
+        → AreMade (Source out colours mode) (content_of cell.now) choice (signals_of wires.old)
+        (signal.Offer out ∷ []) (signals_of wires.new) }
+{
+    let offer = plain_offer(mode, pending(cell), chosen_offer(choice));
+    put_offer(wires, out, offer);
+}
+
+fn make_sink(cell: &Cell, choice: Choice, input: u32, mode: SinkMode, wires: &mut [Wire])
+    requires { input < length wires.old }
+    ensures { AreMade (Sink input mode) (content_of cell.now) choice (signals_of wires.old)
+        (signal.Ready input ∷ []) (signals_of wires.new) }
+{
+    let ready = is_ready_sink(mode, is_held(cell), choice);
+    put_ready(wires, input, ready);
+}
+
+fn make_queue(cell: &Cell, input: u32, out: u32, capacity: u32, wires: &mut [Wire])
+    requires input { input < length wires.old }
+    requires out { out < length wires.old }
+    ensures { (initial : Colours ℕ) (w : Chosen)
+        → AreMade (Queue input out capacity initial) (content_of cell.now) w (signals_of wires.old)
+        (signal.Offer out ∷ signal.Ready input ∷ []) (signals_of wires.new) }
+{
+    let packets = packets(cell);
+    put_offer(wires, out, packets.first().copied());
+    put_ready(wires, input, packets.len() < capacity as usize);
+}
+
+fn make_function(table: &[u8], input: u32, out: u32, wires: &mut [Wire])
+    requires input { input < length wires.old }
+    requires out { out < length wires.old }
+    ensures { (s : Content) (w : Chosen)
+        → AreMade (Function input out table.now) s w (signals_of wires.old)
+        (signal.Offer out ∷ signal.Ready input ∷ []) (signals_of wires.new) }
+{
+    let offer = image(table, offer_in(wires, input));
+    put_offer(wires, out, offer);
+    let ready = ready_in(wires, out);
+    put_ready(wires, input, ready);
+}
+
+/// The offer through a map that keeps each of so many colours.
+fn kept_offer(colours: u32, offer: Option<u8>) -> Option<u8>
+    ensures { result ≡ kept colours offer }
+{
+    match offer {
+        None => None,
+        Some(colour) => Some(if (colour as u32) < colours { colour } else { 0 }),
+    }
+}
+
+/// What a fork whose maps keep their colours offers on one side, where the other is `other`.
+fn plain_fork_offer(wires: &[Wire], input: u32, other: u32, colours: u32) -> Option<u8>
+    requires input { input < length wires.now }
+    requires other { other < length wires.now }
+    ensures { result ≡ only_if ((signals_of wires.now).ready other) (kept colours ((signals_of wires.now).offer input)) }
+{
+    only(
+        ready_in(wires, other),
+        kept_offer(colours, offer_in(wires, input)),
+    )
+}
+
+/// What a fork offers on one side, where the other is `other`.
+fn fork_offer(wires: &[Wire], input: u32, other: u32, table: &[u8]) -> Option<u8>
+    requires input { input < length wires.now }
+    requires other { other < length wires.now }
+    ensures { result ≡ only_if ((signals_of wires.now).ready other) (through table.now ((signals_of wires.now).offer input)) }
+{
+    only(ready_in(wires, other), image(table, offer_in(wires, input)))
+}
+
+/// Whether both places are ready.
+fn both_ready(wires: &[Wire], a: u32, b: u32) -> bool
+    requires a { a < length wires.now }
+    requires b { b < length wires.now }
+    ensures { result ≡ ((signals_of wires.now).ready a && (signals_of wires.now).ready b) }
+{
+    ready_in(wires, a) && ready_in(wires, b)
+}
+
+fn make_plain_fork(input: u32, a: u32, b: u32, colours: u32, wires: &mut [Wire])
+    requires input { input < length wires.old }
+    requires a { a < length wires.old }
+    requires b { b < length wires.old }
+    ensures { (ta tb : Colours ℕ) (s : Content) (w : Chosen) → a ≢ b → Keeps colours ta → Keeps colours tb
+        → AreMade (Fork input a b ta tb) s w (signals_of wires.old)
+        (signal.Offer a ∷ signal.Offer b ∷ signal.Ready input ∷ []) (signals_of wires.new) }
+{
+    let offer_a = plain_fork_offer(wires, input, b, colours);
+    put_offer(wires, a, offer_a);
+    let offer_b = plain_fork_offer(wires, input, a, colours);
+    put_offer(wires, b, offer_b);
+    let ready = both_ready(wires, a, b);
+    put_ready(wires, input, ready);
+}
+
+fn make_fork(map_a: &[u8], map_b: &[u8], input: u32, a: u32, b: u32, wires: &mut [Wire])
+    requires input { input < length wires.old }
+    requires a { a < length wires.old }
+    requires b { b < length wires.old }
+    ensures { (s : Content) (w : Chosen) → a ≢ b
+        → AreMade (Fork input a b map_a.now map_b.now) s w (signals_of wires.old)
+        (signal.Offer a ∷ signal.Offer b ∷ signal.Ready input ∷ []) (signals_of wires.new) }
+{
+    let offer_a = fork_offer(wires, input, b, map_a);
+    put_offer(wires, a, offer_a);
+    let offer_b = fork_offer(wires, input, a, map_b);
+    put_offer(wires, b, offer_b);
+    let ready = both_ready(wires, a, b);
+    put_ready(wires, input, ready);
+}
+
+fn join_offer(wires: &[Wire], a: u32, b: u32, pass: Side) -> Option<u8>
+    requires a { a < length wires.now }
+    requires b { b < length wires.now }
+    ensures { result ≡ only_if (is_some ((signals_of wires.now).offer a) && is_some ((signals_of wires.now).offer b))
+        (at_side pass ((signals_of wires.now).offer a) ((signals_of wires.now).offer b)) }
+{
+    joined(pass, offer_in(wires, a), offer_in(wires, b))
+}
+
+/// Whether a join is ready on one side, where the other is `other`.
+fn join_ready(wires: &[Wire], out: u32, other: u32) -> bool
+    requires out { out < length wires.now }
+    requires other { other < length wires.now }
+    ensures { result ≡ ((signals_of wires.now).ready out && is_some ((signals_of wires.now).offer other)) }
+{
+    ready_in(wires, out) && offer_in(wires, other).is_some()
+}
+
+fn make_join(a: u32, b: u32, out: u32, pass: Side, wires: &mut [Wire])
+    requires a { a < length wires.old }
+    requires b { b < length wires.old }
+    requires out { out < length wires.old }
+    ensures { (s : Content) (w : Chosen) → a ≢ b
+        → AreMade (Join a b out pass) s w (signals_of wires.old)
+        (signal.Offer out ∷ signal.Ready a ∷ signal.Ready b ∷ []) (signals_of wires.new) }
+{
+    let offer = join_offer(wires, a, b, pass);
+    put_offer(wires, out, offer);
+    let ready_a = join_ready(wires, out, b);
+    put_ready(wires, a, ready_a);
+    let ready_b = join_ready(wires, out, a);
+    put_ready(wires, b, ready_b);
+}
+
+fn make_switch_offers(to_a: &[bool], input: u32, a: u32, b: u32, wires: &mut [Wire])
+    requires input { input < length wires.old }
+    requires a { a < length wires.old }
+    requires b { b < length wires.old }
+    ensures { (s : Content) (w : Chosen) → a ≢ b
+        → AreMade (Switch input a b to_a.now) s w (signals_of wires.old)
+        (signal.Offer a ∷ signal.Offer b ∷ []) (signals_of wires.new) }
+{
+    let offer_a = on_side_a(to_a, offer_in(wires, input));
+    put_offer(wires, a, offer_a);
+    let offer_b = on_side_b(to_a, offer_in(wires, input));
+    put_offer(wires, b, offer_b);
+}
+
+fn switch_ready(to_a: &[bool], wires: &[Wire], input: u32, a: u32, b: u32) -> bool
+    requires input { input < length wires.now }
+    requires a { a < length wires.now }
+    requires b { b < length wires.now }
+    ensures { result
+        ≡ ((is_some (to_side_a to_a.now ((signals_of wires.now).offer input)) && (signals_of wires.now).ready a)
+        || (is_some (to_side_b to_a.now ((signals_of wires.now).offer input)) && (signals_of wires.now).ready b)) }
+{
+    let offer = offer_in(wires, input);
+    (on_side_a(to_a, offer).is_some() && ready_in(wires, a))
+        || (on_side_b(to_a, offer).is_some() && ready_in(wires, b))
+}
+
+fn make_switch_ready(to_a: &[bool], input: u32, a: u32, b: u32, wires: &mut [Wire])
+    requires input { input < length wires.old }
+    requires a { a < length wires.old }
+    requires b { b < length wires.old }
+    ensures { (s : Content) (w : Chosen)
+        → AreMade (Switch input a b to_a.now) s w (signals_of wires.old)
+        (signal.Ready input ∷ []) (signals_of wires.new) }
+{
+    let ready = switch_ready(to_a, wires, input, a, b);
+    put_ready(wires, input, ready);
+}
+
+fn merge_offer(side: Side, wires: &[Wire], a: u32, b: u32) -> Option<u8>
+    requires a { a < length wires.now }
+    requires b { b < length wires.now }
+    ensures { result
+        ≡ granted_offer (grant side ((signals_of wires.now).offer a) ((signals_of wires.now).offer b))
+        ((signals_of wires.now).offer a) ((signals_of wires.now).offer b) }
+{
+    let (x, y) = (offer_in(wires, a), offer_in(wires, b));
+    taken_from(granted(side, x, y), x, y)
+}
+
+fn merge_ready_a(side: Side, wires: &[Wire], a: u32, b: u32, out: u32) -> bool
+    requires a { a < length wires.now }
+    requires b { b < length wires.now }
+    requires out { out < length wires.now }
+    ensures { result
+        ≡ (is_a (grant side ((signals_of wires.now).offer a) ((signals_of wires.now).offer b))
+        && (signals_of wires.now).ready out) }
+{
+    is_side_a(granted(side, offer_in(wires, a), offer_in(wires, b))) && ready_in(wires, out)
+}
+
+fn merge_ready_b(side: Side, wires: &[Wire], a: u32, b: u32, out: u32) -> bool
+    requires a { a < length wires.now }
+    requires b { b < length wires.now }
+    requires out { out < length wires.now }
+    ensures { result
+        ≡ (is_b (grant side ((signals_of wires.now).offer a) ((signals_of wires.now).offer b))
+        && (signals_of wires.now).ready out) }
+{
+    is_side_b(granted(side, offer_in(wires, a), offer_in(wires, b))) && ready_in(wires, out)
+}
+
+fn make_merge(cell: &Cell, a: u32, b: u32, out: u32, wires: &mut [Wire])
+    requires a { a < length wires.old }
+    requires b { b < length wires.old }
+    requires out { out < length wires.old }
+    ensures { (w : Chosen) → a ≢ b
+        → AreMade (Merge a b out) (content_of cell.now) w (signals_of wires.old)
+        (signal.Offer out ∷ signal.Ready a ∷ signal.Ready b ∷ []) (signals_of wires.new) }
+{
+    let side = preferred(cell);
+    let offer = merge_offer(side, wires, a, b);
+    put_offer(wires, out, offer);
+    let ready_a = merge_ready_a(side, wires, a, b, out);
+    put_ready(wires, a, ready_a);
+    let ready_b = merge_ready_b(side, wires, a, b, out);
+    put_ready(wires, b, ready_b);
+}
+
+fn make_one(
+    prim: &Prim,
+    cell: &Cell,
+    row: &[Choice],
+    place: u32,
+    signal: Signal,
+    wires: &mut [Wire],
+)
+    requires { channel_of signal < length wires.old }
+    ensures { AreMade (component_of prim.now) (content_of cell.now) (choice_or (slice_get row.now place))
+        (signals_of wires.old) (signal ∷ []) (signals_of wires.new) }
+{
+    match signal {
+        Signal::Offer(c) => {
+            let offer = offered(prim, cell, row, place, wires, c);
+            put_offer(wires, c, offer);
+        }
+        Signal::Ready(c) => {
+            let ready = readied(prim, cell, row, place, wires, c);
+            put_ready(wires, c, ready);
+        }
+    }
+}
+
+/// The map of a function; of another kind, an empty one.
+fn table(prim: &Prim) -> &[u8]
+    ensures { result.now ≡ table_in (component_of prim.now) }
+{
+    match prim {
+        Prim::Function { map, .. } => map.as_slice(),
+        _ => &[],
+    }
+}
+
+fn table_a(prim: &Prim) -> &[u8]
+    ensures { result.now ≡ table_a_in (component_of prim.now) }
+{
+    match prim {
+        Prim::Fork { map_a, .. } => map_a.as_slice(),
+        _ => &[],
+    }
+}
+
+fn table_b(prim: &Prim) -> &[u8]
+    ensures { result.now ≡ table_b_in (component_of prim.now) }
+{
+    match prim {
+        Prim::Fork { map_b, .. } => map_b.as_slice(),
+        _ => &[],
+    }
+}
+
+/// The colours that a switch sends to its side a; of another kind, none.
+fn to_a(prim: &Prim) -> &[bool]
+    ensures { result.now ≡ to_a_in (component_of prim.now) }
+{
+    match prim {
+        Prim::Switch { to_a, .. } => to_a.as_slice(),
+        _ => &[],
+    }
+}
+
+/// Makes the signals of one operation.
+fn make(
+    operation: Operation,
+    prims: &[Prim],
+    choices: &[u32],
+    cells: &[Cell],
+    row: &[Choice],
+    wires: &mut [Wire],
+)
+    requires fits { FitsOperation (map component_of prims.now) choices.now operation }
+    requires placed { ArePlaced (map component_of prims.now) (length wires.old) }
+    requires cells { length cells.now ≡ length prims.now }
+    requires choices { length choices.now ≡ length prims.now }
+    ensures { IsDone (map component_of prims.now) (content_at cells.now) (choice_for choices.now row.now)
+        (signals_of wires.old) operation (signals_of wires.new) }
+{
+    match operation {
+        Operation::Source {
+            prim,
+            out,
+            choice,
+            mode,
+        } => make_source(
+            &cells[prim as usize],
+            choice_in_row(row, choice),
+            out,
+            mode,
+            wires,
+        ),
+        Operation::Sink {
+            prim,
+            input,
+            choice,
+            mode,
+        } => make_sink(
+            &cells[prim as usize],
+            choice_in_row(row, choice),
+            input,
+            mode,
+            wires,
+        ),
+        Operation::Queue {
+            prim,
+            input,
+            out,
+            capacity,
+        } => make_queue(&cells[prim as usize], input, out, capacity, wires),
+        Operation::Function { prim, input, out } => {
+            make_function(table(&prims[prim as usize]), input, out, wires)
+        }
+        Operation::ForkPlain {
+            input,
+            a,
+            b,
+            colours,
+            ..
+        } => make_plain_fork(input, a, b, colours, wires),
+        Operation::Fork { prim, input, a, b } => {
+            let fork = &prims[prim as usize];
+            make_fork(table_a(fork), table_b(fork), input, a, b, wires)
+        }
+        Operation::Join {
+            a,
+            b,
+            out,
+            pass,
+            ..
+        } => make_join(a, b, out, pass, wires),
+        Operation::SwitchOffers { prim, input, a, b } => {
+            make_switch_offers(to_a(&prims[prim as usize]), input, a, b, wires)
+        }
+        Operation::SwitchReady { prim, input, a, b } => {
+            make_switch_ready(to_a(&prims[prim as usize]), input, a, b, wires)
+        }
+        Operation::Merge { prim, a, b, out } => {
+            make_merge(&cells[prim as usize], a, b, out, wires)
+        }
+        Operation::One(task) => {
+            let p = task.prim as usize;
+            make_one(&prims[p], &cells[p], row, choices[p], task.signal, wires)
+        }
+    }
+}
+
+/// Does every operation. It is not inlined: within its one caller the compiler keeps the variables of this loop
+/// on the stack, which cost time in every cycle (measured with callgrind).
+#[inline(never)]
+pub fn make_all(
+    operations: &[Operation],
+    prims: &[Prim],
+    choices: &[u32],
+    cells: &[Cell],
+    row: &[Choice],
+    wires: &mut [Wire],
+)
+    requires fit { (k : ℕ) (op : Op) → slice_get operations.now k ≡ Some op
+        → FitsOperation (map component_of prims.now) choices.now op }
+    requires placed { ArePlaced (map component_of prims.now) (length wires.old) }
+    requires schedule { IsSchedule (map component_of prims.now) (all_tasks operations.now) }
+    requires cells { length cells.now ≡ length prims.now }
+    requires choices { length choices.now ≡ length prims.now }
+    ensures settled { AreSettled (map component_of prims.now) (content_at cells.now) (choice_for choices.now row.now)
+        (all_tasks operations.now) (signals_of wires.new) }
+    ensures others { LeavesOthers (all_tasks operations.now) (signals_of wires.old) (signals_of wires.new) }
+{
+    for operation in operations {
+        make(*operation, prims, choices, cells, row, wires);
+    }
+}

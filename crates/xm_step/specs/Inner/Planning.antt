@@ -1,0 +1,17 @@
+-- Inner: a plan for the cycles of a design. No public clause cites this.
+use Rattle.std.specs.Prelude.{◌≡◌, List}
+use Rattle.xm_design.specs.Designed.{Designed}
+use Rattle.xm_design.specs.Numbers.{IsOracles}
+use Rattle.xm_design.specs.Tasks.{AreTasks}
+use Rattle.xm_design.specs.declared.tasks.Task.{Task}
+use Rattle.xm_plan.specs.Planned.{Planned}
+use Rattle.xm_plan.specs.Schedule.{SameTasks}
+
+-- the plan is for the net's primitives and channels, and does the tasks of the design
+pub record IsPlanFor (it : Designed) (plan : Planned) : Type 0 where
+  pub prims : plan.prims ≡ it.net.prims
+  pub places : plan.places ≡ it.net.channels
+  pub choices : IsOracles it.net.prims plan.choices
+  pub tasks : List Task
+  pub are_tasks : AreTasks it.net it.order tasks
+  pub same : SameTasks tasks plan.tasks

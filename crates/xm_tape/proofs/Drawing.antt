@@ -1,0 +1,71 @@
+-- The rows that a seed draws, and the numbers between them.
+use Rattle.std.proofs.Common.{◌≡◌, ℕ, zero, suc, ◌<◌, ◌+◌, ◌-◌, ◌*◌, ◌∙◌, List, [], ◌∷◌, ◌++◌, add-one, append_assoc, drop, drop-cons, get_or, length, map, refl, sym, ap, arith}
+use Rattle.xm_model.specs.Component.{Component, component_of}
+use Rattle.xm_model.specs.declared.primitive.Primitive.{Primitive}
+use Rattle.xm_model.specs.declared.state.Choice.{Choice}
+use Rattle.std.proofs.lemmas.List.{get_or_append_left}
+use Rattle.xm_tape.specs.Taped.{Taped, cycles_of, rows_of}
+use Rattle.xm_tape.specs.Draws.{choice_drawn, next_number, number_after, row_drawn, rows_drawn}
+
+pub number_after-add : (n m x : ℕ) → number_after (n + m) x ≡ number_after m (number_after n x)
+number_after-add zero m x = ap (λ (i : ℕ). number_after i x) (let e : zero + m ≡ m = omega arith in e)
+number_after-add (suc n) m x =
+    let e : suc n + m ≡ suc (n + m) = omega arith in
+    ap (λ (i : ℕ). number_after i x) e ∙ number_after-add n m (next_number x)
+
+-- the draws of the rows that are left
+pub left_of : (rows t width : ℕ) → t < rows → (rows - t) * width ≡ width + (rows - (t + 1)) * width
+left_of rows t width below =
+    let left : rows - t ≡ suc (rows - (t + 1)) = omega arith in
+    ap (λ (i : ℕ). i * width) left ∙ (let e : suc (rows - (t + 1)) * width ≡ width + (rows - (t + 1)) * width = omega arith in e)
+
+pub length-rows_drawn : (oracles : List Component) (cycles x : ℕ) → length (rows_drawn oracles cycles x) ≡ cycles
+length-rows_drawn oracles zero x = refl
+length-rows_drawn oracles (suc cycles) x = ap suc (length-rows_drawn oracles cycles (number_after (length oracles) x))
+
+-- the row of cycle t is drawn after those before it
+pub row_at : (oracles : List Component) (cycles t x : ℕ) → t < cycles → get_or (rows_drawn oracles cycles x) t [] ≡ row_drawn oracles (number_after (t * length oracles) x)
+row_at oracles zero t x below = absurd (omega arith)
+row_at oracles (suc cycles) zero x below = ap (λ (i : ℕ). row_drawn oracles (number_after i x)) (let e : 0 ≡ zero * length oracles = omega arith in e)
+row_at oracles (suc cycles) (suc t) x below =
+    let w = length oracles in
+    let e : w + t * w ≡ suc t * w = omega arith in
+    row_at oracles cycles t (number_after w x) (omega arith)
+    ∙ ap (row_drawn oracles) (sym (number_after-add w (t * w) x) ∙ ap (λ (i : ℕ). number_after i x) e)
+
+-- one more choice of a row
+pub drawn_more : (prims : List Primitive) (i number next : ℕ) (p : Primitive) (items new : List Choice) (choice : Choice) (whole : List Choice) → i < length prims → p ≡ get_or prims i p → next ≡ next_number number
+    → choice ≡ choice_drawn (component_of p) next → new ≡ items ++ choice ∷ [] → items ++ row_drawn (map component_of (drop i prims)) number ≡ whole
+    → new ++ row_drawn (map component_of (drop (i + 1) prims)) next ≡ whole
+drawn_more prims i number next p items new choice whole below is stepped chosen made so_far =
+    let split : drop i prims ≡ p ∷ drop (suc i) prims = drop-cons prims i p below ∙ ap (λ (q : Primitive). q ∷ drop (suc i) prims) (sym is) in
+    let rest = row_drawn (map component_of (drop (suc i) prims)) (next_number number) in
+    let drawn : choice ≡ choice_drawn (component_of p) (next_number number) = chosen ∙ ap (choice_drawn (component_of p)) stepped in
+    rw (add-one, made, stepped) (append_assoc items (choice ∷ []) rest
+    ∙ ap (λ (d : Choice). items ++ d ∷ rest) drawn
+    ∙ ap (λ (ps : List Primitive). items ++ row_drawn (map component_of ps) number) (sym split)
+    ∙ so_far)
+
+-- the number after one more row
+pub number_next : (w t x number after : ℕ) → number ≡ number_after (t * w) x → after ≡ number_after w number → after ≡ number_after ((t + 1) * w) x
+number_next w t x number after is next =
+    let e : t * w + w ≡ (t + 1) * w = omega arith in
+    next ∙ ap (number_after w) is ∙ sym (number_after-add (t * w) w x) ∙ ap (λ (n : ℕ). number_after n x) e
+
+-- the row of cycle t, of a tape that is drawn
+pub drawn_read : (oracles : List Component) (cycles x t : ℕ) (tape : Taped) → record { stem = rows_drawn oracles cycles x; cycle = []; times = 0 } ≡ tape → t < cycles_of tape
+    → get_or (rows_of tape) t [] ≡ row_drawn oracles (number_after (t * length oracles) x)
+drawn_read oracles cycles x t tape seen within =
+    let few : t < length (rows_drawn oracles cycles x) = omega (arith, ap cycles_of (sym seen), within) in
+    let below : t < cycles = omega (arith, few, length-rows_drawn oracles cycles x) in
+    ap (λ (them : Taped). get_or (rows_of them) t []) (sym seen)
+    ∙ get_or_append_left (rows_drawn oracles cycles x) [] [] t few
+    ∙ row_at oracles cycles t x below
+
+pub cycles_drawn : (oracles : List Component) (cycles x : ℕ) (tape : Taped) → record { stem = rows_drawn oracles cycles x; cycle = []; times = 0 } ≡ tape → (cycles ≡ length tape.stem) × (cycles ≡ cycles_of tape)
+cycles_drawn oracles cycles x tape seen =
+    let many = length-rows_drawn oracles cycles x in
+    let all : cycles ≡ length (rows_drawn oracles cycles x) + 0 * 0 = omega (arith, many) in (
+      sym many ∙ ap (λ (them : Taped). length them.stem) seen,
+      all ∙ ap cycles_of seen,
+    )

@@ -1,0 +1,8 @@
+-- Where in a tape its rows are read.
+use Rattle.std.specs.Prelude.{ℕ}
+use Rattle.xm_tape.specs.Taped.{Taped}
+
+-- the tape, and the cycle whose row is given
+pub record Place : Type 0 where
+  pub tape : Taped
+  pub cycle : ℕ

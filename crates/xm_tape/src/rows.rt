@@ -1,0 +1,125 @@
+//! The rows of a tape, one after another.
+
+ghost use Rattle.std.specs.Prelude.{◌≡◌, ℕ, [], ◌+◌, ◌≤◌, IfOk};
+ghost use Rattle.xm_tape.specs.Inner.Forms as spec;
+
+use crate::drawn::DrawnTape;
+use crate::draws::{draw_row, rows_skipped};
+use crate::written::WrittenTape;
+use std::alloc::Global;
+use std::marker::Model;
+use xm_model::{Choice, List, OutOfMemory};
+
+/// A tape whose rows are kept, or one whose rows are drawn.
+#[derive(Drop)]
+pub enum Form {
+    Written(WrittenTape),
+    Drawn(DrawnTape),
+}
+
+/// Gives the row of one cycle of a tape after another. A contract sees the tape and the cycle. A drawn row is made
+/// in the place of the one before.
+#[derive(Drop)]
+pub struct Rows<'t> {
+    form: &'t Form,
+    cycle: u32,
+    number: u64,
+    row: List<Choice>,
+}
+
+impl<'t> Model for Rows<'t> {
+    ghost use Rattle.std.specs.Prelude.{◌≡◌, ◌≤◌, ◌+◌};
+    ghost use Rattle.xm_tape.specs.Place.{Place};
+
+    ghost Value = { Place };
+
+    ghost use Rattle.xm_tape.specs.Inner.Forms.{drawn_row, number_at, taped_of, width_drawn};
+
+    ghost view = { λ it. record { tape = taped_of it.form.now; cycle = it.cycle } };
+
+    ghost invariant = { λ it. (it.number ≡ number_at it.form.now (it.cycle + 1))
+        × ((it.row.items ≡ drawn_row it.form.now it.cycle) × (width_drawn it.form.now ≤ it.row.room)) };
+}
+
+/// The number after which the row of this cycle is drawn.
+fn number_at(form: &Form, cycle: u32) -> u64
+    ensures { result ≡ spec.number_at form.now cycle }
+{
+    match form {
+        Form::Written(_) => 0,
+        Form::Drawn(tape) => rows_skipped(tape.seed, tape.oracles.len(), cycle),
+    }
+}
+
+/// An empty row with room for the choices that are made in place.
+fn row_for(alloc: Global, form: &Form) -> Result<List<Choice>, OutOfMemory>
+    ensures items { IfOk result (λ row. row.items ≡ []) }
+    ensures room { IfOk result (λ row. spec.width_drawn form.now ≤ row.room) }
+{
+    let mut row = List::new(alloc);
+    if let Form::Drawn(tape) = form {
+        let width = tape.oracles.len();
+        if width > u32::MAX as usize {
+            return Err(OutOfMemory);
+        }
+        row.reserve(width as u32)?;
+    }
+    Ok(row)
+}
+
+/// Makes the row that is drawn after a number, if it is drawn, and gives the number after it.
+fn make_row(form: &Form, number: u64, row: &mut List<Choice>) -> u64
+    requires room { spec.width_drawn form.now ≤ row.old.room }
+    ensures row { (t : ℕ) → number ≡ spec.number_at form.now t → row.new.items ≡ spec.drawn_row form.now t }
+    ensures number { (t : ℕ) → number ≡ spec.number_at form.now t → result ≡ spec.number_at form.now (t + 1) }
+    ensures room { row.new.room ≡ row.old.room }
+{
+    match form {
+        Form::Written(_) => {
+            row.truncate(0);
+            0
+        }
+        Form::Drawn(tape) => draw_row(row, tape.oracles.as_slice(), number),
+    }
+}
+
+impl<'t> Rows<'t> {
+    ghost use Rattle.std.specs.Prelude.{[], ◌+◌, ◌<◌, ◌^◌, slice_index_or, IfOk};
+    ghost use Rattle.xm_tape.specs.Inner.Forms.{taped_of};
+    ghost use Rattle.xm_tape.specs.Taped.{cycles_of, rows_of};
+
+    pub(crate) fn new(alloc: Global, form: &'t Form, from: u32) -> Result<Rows<'t>, OutOfMemory>
+        ensures { IfOk result (λ rows. rows ≡ record { tape = taped_of form.now; cycle = from }) }
+    {
+        let mut row = row_for(alloc, form)?;
+        let number = make_row(form, number_at(form, from), &mut row);
+        Ok(Rows {
+            form,
+            cycle: from,
+            number,
+            row,
+        })
+    }
+
+    /// The choices of the cycle, one for each source and sink in primitive order, in constant time.
+    pub fn row(&self) -> &[Choice]
+        requires { self.now.cycle < cycles_of self.now.tape }
+        ensures { result.now ≡ slice_index_or (rows_of self.now.tape) self.now.cycle [] }
+    {
+        match self.form {
+            Form::Written(tape) => tape.at(self.cycle),
+            Form::Drawn(_) => self.row.as_slice(),
+        }
+    }
+
+    /// Goes on to the next cycle, in time that is constant where rows are written, and else linear in the sources
+    /// and sinks. It takes no memory.
+    pub fn advance(&mut self)
+        requires { self.old.cycle + 1 < 2 ^ 32 }
+        ensures tape { self.new.tape ≡ self.old.tape }
+        ensures cycle { self.new.cycle ≡ self.old.cycle + 1 }
+    {
+        self.number = make_row(self.form, self.number, &mut self.row);
+        self.cycle += 1;
+    }
+}
