@@ -263,18 +263,17 @@ impl Draft {
     /// Sources, sinks and queues, which need no signal.
     fn begin(&mut self, alloc: Global, prims: &[Prim]) -> Result<(), OutOfMemory> {
         for kind in 0..3 {
+            let mut level = List::new(alloc);
             for (p, prim) in prims.iter().enumerate() {
                 if is_first(prim, kind) {
                     if is_eager(prim) {
                         put(&mut self.single, p, true);
                     }
-                    let mut level = List::new(alloc);
-                    let p = u32::try_from(p).unwrap_or(u32::MAX);
-                    self.visit(p, prim, &mut level)?;
-                    let mut none = List::new(alloc);
-                    self.close(prims, level.as_slice(), &mut none)?;
+                    self.visit(u32::try_from(p).unwrap_or(u32::MAX), prim, &mut level)?;
                 }
             }
+            let mut none = List::new(alloc);
+            self.close(prims, level.as_slice(), &mut none)?;
         }
         Ok(())
     }

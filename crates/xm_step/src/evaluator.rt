@@ -2,6 +2,7 @@
 
 ghost use Rattle.std.specs.Prelude.{◌≡◌};
 
+use crate::kinds::{Kinds, kinds_of};
 use std::alloc::Global;
 use std::marker::Model;
 use xm_design::Design;
@@ -13,6 +14,7 @@ use xm_plan::Plan;
 pub struct Evaluator<'a> {
     design: &'a Design,
     plan: Plan,
+    kinds: Kinds,
 }
 
 impl<'a> Model for Evaluator<'a> {
@@ -20,16 +22,17 @@ impl<'a> Model for Evaluator<'a> {
 
     ghost Value = { Designed };
 
-    ghost use Rattle.xm_step.specs.Inner.Planning.{IsPlanFor};
+    ghost use Rattle.xm_step.specs.Inner.Planning.{IsEvaluatorOf};
 
     ghost view = { λ e. e.design.now };
 
-    ghost invariant = { λ e. IsPlanFor e.design.now e.plan };
+    ghost invariant = { λ e. IsEvaluatorOf e.design.now e.plan e.kinds.queues.items e.kinds.others.items };
 }
 
 impl<'a> Evaluator<'a> {
-    ghost use Rattle.std.specs.Prelude.{◌≡◌, IfOk};
+    ghost use Rattle.std.specs.Prelude.{◌≡◌, length, IfOk};
     ghost use Rattle.xm_design.specs.Designed.{IsDesigned};
+    ghost use Rattle.xm_step.specs.Inner.Kinds.{AreKindsTo};
     ghost use Rattle.xm_step.specs.Inner.Planning.{IsPlanFor};
 
     /// The evaluator of a design. Its plan takes time that is linear in the primitives and the channels.
@@ -45,7 +48,12 @@ impl<'a> Evaluator<'a> {
             design.oracles(),
             design.tasks(),
         )?;
-        Ok(Evaluator { design, plan })
+        let kinds = kinds_of(alloc, net.prims().as_slice())?;
+        Ok(Evaluator {
+            design,
+            plan,
+            kinds,
+        })
     }
 
     /// Lends the design.
@@ -55,6 +63,14 @@ impl<'a> Evaluator<'a> {
     {
         self.design.is_designed();
         self.design
+    }
+
+    /// Lends the queues and the other primitives.
+    pub(crate) fn kinds(&self) -> &Kinds
+        ensures { AreKindsTo self.now.net.prims (length self.now.net.prims) result.now.queues.items
+            result.now.others.items }
+    {
+        &self.kinds
     }
 
     /// Lends the plan.

@@ -1,5 +1,5 @@
 -- Inner: one cell past a cycle, and at reset. No public clause cites these.
-use Rattle.std.specs.Prelude.{◌≡◌, ℕ, nat_lt, List, length, slice_get, Some}
+use Rattle.std.specs.Prelude.{◌≡◌, ℕ, nat_lt, List, [], length, slice_get, Some}
 use Rattle.xm_model.specs.Component.{Component, Queue, content_of}
 use Rattle.xm_model.specs.Next.{content_after, reset_content}
 use Rattle.xm_model.specs.Signals.{Signals}
@@ -20,6 +20,16 @@ pub record IsAdvanced (m : Component) (old new : Cell) (φ : Signals) : Type 0 w
   pub content : content_of new ≡ content_after m (content_of old) φ
   pub roomy : IsRoomyCell m new
   pub room : room_in m new ≡ room_in m old
+
+-- a queue's cell is roomy, and keeps its capacity in this cycle
+abbrev pub CanAdvance : ℕ → ℕ → ℕ → Cell → Signals → Type 0
+CanAdvance input out capacity x φ =
+    IsRoomyCell (Queue input out capacity []) x × IsGuarded (Queue input out capacity []) x φ
+
+-- the cells of some primitives went on, and all others are as they were
+pub record HaveGone (ms : List Component) (old new : List Cell) (φ : Signals) (Gone : ℕ → Type 0) : Type 0 where
+  pub gone : (p : ℕ) (m : Component) → Gone p → slice_get ms p ≡ Some m → IsAdvanced m (cell_at old p) (cell_at new p) φ
+  pub rest : (p : ℕ) → (Gone p → ⊥) → cell_at new p ≡ cell_at old p
 
 -- every cell went on
 pub record AllAdvance (ms : List Component) (old new : List Cell) (φ : Signals) : Type 0 where

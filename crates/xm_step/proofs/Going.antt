@@ -1,0 +1,114 @@
+-- The cells of the queues, and then those of the other primitives, past a cycle.
+use Rattle.std.proofs.Common.{◌≡◌, ℕ, ◌+◌, ◌<◌, ◌≤◌, List, Some, length, set, get_or, slice_get, refl, sym, ap, ◌∙◌, subst, inl, inr, arith}
+use Rattle.std.proofs.lemmas.Bool.{cases_lt}
+use Rattle.std.proofs.lemmas.List.{get_or_default}
+use Rattle.std.proofs.lemmas.Option.{slice_get_within}
+use Rattle.xm_model.specs.Component.{Component, Queue}
+use Rattle.xm_model.specs.Signals.{Signals}
+use Rattle.xm_model.specs.declared.state.Cell.{Cell}
+use Rattle.xm_model.specs.declared.state.Cell.TheVariants as cell
+use Rattle.xm_step.specs.Inner.Cells.{AllAdvance, CanAdvance, HaveGone, IsAdvanced, IsGuarded, IsGuardedBy}
+use Rattle.xm_step.specs.Inner.Kinds.{AreKindsTo, IsAmongBoth, IsAmongQueues, IsQueueAt}
+use Rattle.xm_step.specs.Roomy.{IsRoomy, IsRoomyCell, cell_at}
+use Rattle.xm_step.specs.declared.kinds.QueuePlace.{QueuePlace}
+use Rattle.xm_step.proofs.Advancing.{gone_more}
+
+pub can_from : (input out capacity : ℕ) (initial : List ℕ) (x : Cell) (φ : Signals) → IsRoomyCell (Queue input out capacity initial) x → IsGuarded (Queue input out capacity initial) x φ → CanAdvance input out capacity x φ
+can_from input out capacity initial (cell.Packets q) φ roomy guarded = (roomy, guarded)
+can_from input out capacity initial (cell.Pending d) φ roomy guarded = absurd roomy
+can_from input out capacity initial (cell.Held h) φ roomy guarded = absurd roomy
+can_from input out capacity initial (cell.Pref s) φ roomy guarded = absurd roomy
+can_from input out capacity initial cell.Nothing φ roomy guarded = absurd roomy
+
+module _ (ms : List Component) (old : List Cell) (φ : Signals) (queues : List QueuePlace) (others : List ℕ) (n : ℕ) (kinds : AreKindsTo ms n queues others) (roomy : IsRoomy ms old) (guarded : IsGuardedBy ms old φ) (whole : n ≡ length old) where
+  queue_fresh : (k : ℕ) (it : QueuePlace) → slice_get queues k ≡ Some it → IsAmongQueues queues k it.prim → ⊥
+  queue_fresh k it at among =
+      let less = among.1.1.0 in
+      let same = kinds.queues_once among.0 k among.1.0 it among.1.1.1.0 at among.1.1.1.1 in
+      absurd (omega arith)
+
+  other_fresh : (i p : ℕ) → slice_get others i ≡ Some p → IsAmongBoth queues others i p → ⊥
+  other_fresh i p at among = elim among [
+    | inl queue ↦ kinds.apart queue.0 i p queue.1.0 queue.1.1.1.0 at queue.1.1.1.1
+    | inr other ↦ (let less = other.1.0 in let same = kinds.others_once other.0 i p other.1.1 at in absurd (omega arith))
+  ]
+
+  module _ (now : List Cell) (len : length now ≡ length old) (k : ℕ) (it : QueuePlace) (at : slice_get queues k ≡ Some it) (before : HaveGone ms old now φ (IsAmongQueues queues k)) where
+    is_queue : IsQueueAt ms it
+    is_queue = (kinds.queue_at k it at).0
+
+    pub queue_within : it.prim < length now
+    queue_within = let h = (kinds.queue_at k it at).1 in omega arith
+
+    queue_cell : (d : Cell) → get_or now it.prim d ≡ cell_at old it.prim
+    queue_cell d = get_or_default now it.prim d cell.Nothing queue_within ∙ before.rest it.prim (queue_fresh k it at)
+
+    pub queue_can : (d : Cell) → (capacity : ℕ) × CanAdvance it.input it.out capacity (get_or now it.prim d) φ
+    queue_can d = (
+      is_queue.capacity,
+      subst (λ (x : Cell). CanAdvance it.input it.out is_queue.capacity x φ) (sym (queue_cell d))
+          (can_from it.input it.out is_queue.capacity is_queue.initial (cell_at old it.prim) φ (roomy.roomy it.prim _ is_queue.has) (guarded.guarded it.prim _ is_queue.has)),
+    )
+
+    pub queue_gone : (d here : Cell) → ((capacity : ℕ) (initial : List ℕ) → CanAdvance it.input it.out capacity (get_or now it.prim d) φ → IsAdvanced (Queue it.input it.out capacity initial) (get_or now it.prim d) here φ) →
+        HaveGone ms old (set now it.prim here) φ (IsAmongQueues queues (k + 1))
+    unfolding is_queue queue_can
+    queue_gone d here went =
+        gone_more ms old now φ (IsAmongQueues queues k) (IsAmongQueues queues (k + 1)) it.prim (Queue it.input it.out is_queue.capacity is_queue.initial) here queue_within is_queue.has
+        (λ q after. elim (cases_lt after.0 k) [
+          | inl less ↦ inl (after.0, (after.1.0, (less, after.1.1.1)))
+          | inr late ↦
+              let bound = after.1.1.0 in
+              let here_too : after.0 ≡ k = omega arith in
+              let there = after.1.1.1.0 in
+              let one : after.1.0 ≡ it = let e = ap (λ (j : ℕ). slice_get queues j) here_too in cc in
+              inr (sym after.1.1.1.1 ∙ ap (λ (x : QueuePlace). x.prim) one)
+        ])
+        (λ q b. (b.0, (b.1.0, ((let less = b.1.1.0 in omega arith), b.1.1.1))))
+        (k, (it, ((omega arith), (at, refl))))
+        (subst (λ (x : Cell). IsAdvanced (Queue it.input it.out is_queue.capacity is_queue.initial) x here φ) (queue_cell d) (went is_queue.capacity is_queue.initial (queue_can d).1))
+        before
+
+  module _ (now : List Cell) (len : length now ≡ length old) (i p : ℕ) (at : slice_get others i ≡ Some p) (before : HaveGone ms old now φ (IsAmongBoth queues others i)) where
+    pub other_within : p < length now
+    other_within = let h = kinds.other_below i p at in omega arith
+
+    pub other_cell : (d : Cell) → get_or now p d ≡ cell_at old p
+    other_cell d = get_or_default now p d cell.Nothing other_within ∙ before.rest p (other_fresh i p at)
+
+    pub other_roomy : (d : Cell) (m : Component) → slice_get ms p ≡ Some m → IsRoomyCell m (get_or now p d)
+    other_roomy d m has = subst (λ (x : Cell). IsRoomyCell m x) (sym (other_cell d)) (roomy.roomy p m has)
+
+    pub other_guarded : (d : Cell) (m : Component) → slice_get ms p ≡ Some m → IsGuarded m (get_or now p d) φ
+    other_guarded d m has = subst (λ (x : Cell). IsGuarded m x φ) (sym (other_cell d)) (guarded.guarded p m has)
+
+    pub other_gone : (d here : Cell) (m : Component) → slice_get ms p ≡ Some m → IsAdvanced m (get_or now p d) here φ → HaveGone ms old (set now p here) φ (IsAmongBoth queues others (i + 1))
+    other_gone d here m has went =
+        gone_more ms old now φ (IsAmongBoth queues others i) (IsAmongBoth queues others (i + 1)) p m here other_within has
+        (λ q after. elim after [
+          | inl queue ↦ inl (inl queue)
+          | inr other ↦ elim (cases_lt other.0 i) [
+            | inl less ↦ inl (inr (other.0, (less, other.1.1)))
+            | inr late ↦
+                let bound = other.1.0 in
+                let here_too : other.0 ≡ i = omega arith in
+                let there = other.1.1 in
+                let e = ap (λ (j : ℕ). slice_get others j) here_too in
+                inr (let same : q ≡ p = cc in same)
+          ]
+        ])
+        (λ q b. elim b [ inl queue ↦ inl queue | inr other ↦ inr (other.0, ((let less = other.1.0 in omega arith), other.1.1)) ])
+        (inr (i, ((omega arith), at)))
+        (subst (λ (x : Cell). IsAdvanced m x here φ) (other_cell d) went)
+        before
+
+  pub all_gone : (now : List Cell) (i : ℕ) → length now ≡ length old → length others ≤ i → n ≡ length ms → HaveGone ms old now φ (IsAmongBoth queues others i) → AllAdvance ms old now φ
+  all_gone now i len all count gone = record {
+    whole = len;
+    advanced = λ p m has.
+        let within = slice_get_within ms p m has in
+        gone.gone p m (elim (kinds.whole p (omega arith)) [
+          | inl queue ↦ inl (queue.0, (queue.1.0, (slice_get_within queues queue.0 queue.1.0 queue.1.1.0, queue.1.1)))
+          | inr other ↦ inr (other.0, ((let h = slice_get_within others other.0 p other.1 in omega arith), other.1))
+        ]) has;
+  }
