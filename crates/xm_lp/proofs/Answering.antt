@@ -1,11 +1,12 @@
 -- The answer of an end whose row 0 has a negative constant.
-use Rattle.std.proofs.Common.{◌≡◌, ℕ, zero, suc, ◌+◌, ◌<◌, ◌≤◌, Bool, true, false, List, [], ◌∷◌, length, take, refl, sym, ◌∙◌, ap, ap₂, subst, arith, pos, negsuc, ℤ, ◌-ℤ◌, ◌<ℤ◌}
+use Rattle.std.proofs.Common.{◌≡◌, ℕ, zero, suc, ◌+◌, ◌<◌, ◌≤◌, Bool, true, false, List, [], ◌∷◌, length, take, refl}
+use Rattle.std.proofs.Common.{sym, ◌∙◌, ap, ap₂, subst, arith, pos, negsuc, ℤ, ◌-ℤ◌, ◌<ℤ◌}
 use Rattle.std.specs.Int.{is_negative}
 use Rattle.xm_rows.specs.Row.{Fits128}
 use Rattle.xm_lp.specs.declared.decision.Con.{Con}
 use Rattle.xm_lp.specs.Start.{Tableau, AreBelow, row_at, artificials, objective, signed}
 use Rattle.xm_lp.specs.Pivot.{IsLast, entry_at, constant_at}
-use Rattle.xm_lp.specs.Answer.{AreMultipliers, con_at, number_at, multiplier}
+use Rattle.xm_lp.specs.Answer.{AreMultipliers, constraint_at, number_at, multiplier}
 use Rattle.xm_lp.specs.Inner.Refuted.{AreValues, AreDifferences, DifferenceLeaves, AllProductsFit, difference_at}
 use Rattle.xm_lp.specs.Rule.{After, HasMultipliers, IsEnd, Leaves, at_multipliers}
 use Rattle.xm_lp.proofs.Minusing.{zero_fits}
@@ -45,22 +46,26 @@ unsigned true (pos (suc n)) h = h
 unsigned true (negsuc n) h = h
 unsigned false z h = h
 
-module _ (cons : List Con) (columns left n first : ℕ) (t : Tableau) (values : List ℤ) (below : AreBelow columns cons) (is_first : first ≡ artificials cons columns)
-    (after : After cons columns n t) (last : IsLast t first) (negative : constant_at t 0 <ℤ pos 0) (within : n ≤ left)
-    (are : AreValues (row_at t.rows 0) (first + length cons + 1) values) where
-  is_last : IsLast t (artificials cons columns)
+module _ (constraints : List Con) (columns left n first : ℕ) (t : Tableau) (values : List ℤ)
+    (below : AreBelow columns constraints) (is_first : first ≡ artificials constraints columns)
+    (after : After constraints columns n t) (last : IsLast t first) (negative : constant_at t 0 <ℤ pos 0)
+    (within : n ≤ left)
+    (are : AreValues (row_at t.rows 0) (first + length constraints + 1) values) where
+  is_last : IsLast t (artificials constraints columns)
   is_last = subst (IsLast t) is_first last
 
-  end : IsEnd cons columns left n t
+  end : IsEnd constraints columns left n t
   end = record { after = after; within = within; last = is_last }
 
-  difference_is : (i : ℕ) → i < length cons →
-      difference_at cons values first i ≡ (entry_at t 0 (objective cons columns) -ℤ entry_at t 0 (artificials cons columns + i))
+  difference_is : (i : ℕ) → i < length constraints →
+      difference_at constraints values first i ≡ (entry_at t 0 (objective constraints columns) -ℤ entry_at t 0 (artificials constraints columns + i))
   difference_is i lt =
-      ap₂ ◌-ℤ◌ (are.each (first + length cons) (omega arith) ∙ ap (λ (k : ℕ). entry_at t 0 (k + length cons)) is_first)
+      ap₂ ◌-ℤ◌ (are.each (first + length constraints) (omega arith) ∙ ap (λ (k : ℕ). entry_at t 0 (k + length constraints)) is_first)
       (are.each (first + i) (omega arith) ∙ ap (λ (k : ℕ). entry_at t 0 (k + i)) is_first)
 
-  are_lows : (ms : List ℤ) → length ms ≡ length cons → ((i : ℕ) → i < length cons → number_at ms i ≡ multiplier cons columns t i) → AreMultipliers cons columns t ms (take columns values)
+  are_lows : (ms : List ℤ) → length ms ≡ length constraints →
+      ((i : ℕ) → i < length constraints → number_at ms i ≡ multiplier constraints columns t i) →
+      AreMultipliers constraints columns t ms (take columns values)
   are_lows ms count each =
       record {
         count = count;
@@ -69,17 +74,20 @@ module _ (cons : List Con) (columns left n first : ℕ) (t : Tableau) (values : 
         each_low = λ k lt. taken columns values k lt ∙ are.each k (omega (arith, is_first));
       }
 
-  are_multipliers : (ms : List ℤ) → AreDifferences cons values first ms → AreMultipliers cons columns t ms (take columns values)
+  are_multipliers : (ms : List ℤ) → AreDifferences constraints values first ms →
+      AreMultipliers constraints columns t ms (take columns values)
   are_multipliers ms d =
-      are_lows ms d.count (λ i lt. d.each i lt ∙ ap (signed (is_negative (con_at cons i).row.constant)) (difference_is i lt))
+      are_lows ms d.count (λ i lt. d.each i lt ∙ ap (signed (is_negative (constraint_at constraints i).row.constant)) (difference_is i lt))
 
-  pub refuted_by : (ms lows : List ℤ) → AreDifferences cons values first ms → AllProductsFit cons columns ms → lows ≡ take columns values → HasMultipliers cons columns left n ms lows
+  pub refuted_by : (ms lows : List ℤ) → AreDifferences constraints values first ms →
+      AllProductsFit constraints columns ms → lows ≡ take columns values →
+      HasMultipliers constraints columns left n ms lows
   refuted_by ms lows d fit is =
-      let s = sound cons columns below after in
+      let s = sound constraints columns below after in
       let m = are_multipliers ms d in
       let count = s.count in
-      let right = refutes cons columns s.top t ms (take columns values) below s.is_top (s.sums 0 (omega (arith, count))) is_last negative m in
-      subst (HasMultipliers cons columns left n ms) (sym is) (record {
+      let right = refutes constraints columns s.top t ms (take columns values) below s.is_top (s.sums 0 (omega (arith, count))) is_last negative m in
+      subst (HasMultipliers constraints columns left n ms) (sym is) (record {
         tableau = t;
         end = end;
         negative = negative;
@@ -92,15 +100,16 @@ module _ (cons : List Con) (columns left n first : ℕ) (t : Tableau) (values : 
         };
       })
 
-  pub products_leave : (ms : List ℤ) → AreDifferences cons values first ms → ¬ AllProductsFit cons columns ms → Leaves cons columns left n
+  pub products_leave : (ms : List ℤ) → AreDifferences constraints values first ms →
+      ¬ AllProductsFit constraints columns ms → Leaves constraints columns left n
   products_leave ms d leaves =
       at_multipliers n t ms (take columns values) end negative (are_multipliers ms d) (λ fit. leaves (record { entries = fit.entries; constants = fit.constants }))
 
-  pub difference_leaves : DifferenceLeaves cons values first → Leaves cons columns left n
+  pub difference_leaves : DifferenceLeaves constraints values first → Leaves constraints columns left n
   difference_leaves leaves =
       let i = leaves.0 in
-      let ms = listed (length cons) (multiplier cons columns t) in
-      let each = listed_each (length cons) (multiplier cons columns t) in
-      at_multipliers n t ms (take columns values) end negative (are_lows ms (listed_count (length cons) (multiplier cons columns t)) each)
+      let ms = listed (length constraints) (multiplier constraints columns t) in
+      let each = listed_each (length constraints) (multiplier constraints columns t) in
+      at_multipliers n t ms (take columns values) end negative (are_lows ms (listed_count (length constraints) (multiplier constraints columns t)) each)
       (λ fit. leaves.2 (subst Fits128 (sym (difference_is i leaves.1))
-      (unsigned (is_negative (con_at cons i).row.constant) (entry_at t 0 (objective cons columns) -ℤ entry_at t 0 (artificials cons columns + i)) (subst Fits128 (each i leaves.1) (fit.each i leaves.1)))))
+      (unsigned (is_negative (constraint_at constraints i).row.constant) (entry_at t 0 (objective constraints columns) -ℤ entry_at t 0 (artificials constraints columns + i)) (subst Fits128 (each i leaves.1) (fit.each i leaves.1)))))

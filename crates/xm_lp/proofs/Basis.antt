@@ -1,5 +1,6 @@
 -- What each pivot keeps: the basic columns, the signs of the constants, the sums, and the points.
-use Rattle.std.proofs.Common.{◌≡◌, ◌≢◌, ◌⊎◌, ℕ, zero, suc, ◌<◌, inl, inr, List, length, get_or, refl, sym, ◌∙◌, ap, subst, arith, pos, negsuc, neg_ℤ, ℤ, ◌-ℤ◌, ◌*ℤ◌, ◌<ℤ◌, ◌≤ℤ◌}
+use Rattle.std.proofs.Common.{◌≡◌, ◌≢◌, ◌⊎◌, ℕ, zero, suc, ◌<◌, inl, inr, List, length, get_or, refl, sym, ◌∙◌, ap}
+use Rattle.std.proofs.Common.{subst, arith, pos, negsuc, neg_ℤ, ℤ, ◌-ℤ◌, ◌*ℤ◌, ◌<ℤ◌, ◌≤ℤ◌}
 use Rattle.std.proofs.lemmas.Bool.{cases_eq}
 use Rattle.std.proofs.lemmas.Int.{ints}
 use Rattle.std.proofs.lemmas.List.{get_or-set_same, get_or-set_other, length-set}
@@ -20,14 +21,16 @@ pub record IsBasic (t : Tableau) : Type 0 where
   pub apart : (i h : ℕ) → i < length t.rows → h < length t.rows → h ≢ i → entry_at t h (basic_at t i) ≡ pos 0
   pub constants : (i : ℕ) → 0 < i → i < length t.rows → pos 0 ≤ℤ constant_at t i
 
--- a row by which another is replaced: d times it is u times that less v times the pivot row, and its entry in column j is gone
+-- a row by which another is replaced: d times it is u times that less v times the pivot row, and its entry in column j
+-- is gone
 pub record IsMixed (old pivot new : SparseRow) (j : ℕ) : Type 0 where
   pub d : ℤ
   pub u : ℤ
   pub v : ℤ
   pub some : pos 0 <ℤ d
   pub up : pos 0 <ℤ u
-  pub entries : (k : ℕ) → d *ℤ coefficient new.entries k ≡ (u *ℤ coefficient old.entries k) -ℤ (v *ℤ coefficient pivot.entries k)
+  pub entries : (k : ℕ) → d *ℤ coefficient new.entries k ≡
+      (u *ℤ coefficient old.entries k) -ℤ (v *ℤ coefficient pivot.entries k)
   pub constant : d *ℤ new.constant ≡ (u *ℤ old.constant) -ℤ (v *ℤ pivot.constant)
   pub balance : (u *ℤ coefficient old.entries j) ≡ (v *ℤ coefficient pivot.entries j)
   pub gone : coefficient new.entries j ≡ pos 0
@@ -38,7 +41,8 @@ first_factor a b u v some f =
     let size = abs_positive b some in
     factor_positive (pos f.divisor) u (omega (arith, ints)) (subst (λ (z : ℤ). pos 0 <ℤ z) (sym f.first) (omega (arith, ints)))
 
-mixed_by_cancel : (old pivot new : SparseRow) (j : ℕ) → coefficient pivot.entries j ≢ pos 0 → IsCancelled old pivot j new → IsMixed old pivot new j
+mixed_by_cancel : (old pivot new : SparseRow) (j : ℕ) → coefficient pivot.entries j ≢ pos 0 →
+    IsCancelled old pivot j new → IsMixed old pivot new j
 mixed_by_cancel old pivot new j some c =
     let divisor = c.combination.positive in
     let gone = factors_cancel (coefficient old.entries j) (coefficient pivot.entries j) c.u c.v some c.factors in
@@ -54,7 +58,8 @@ mixed_by_cancel old pivot new j some c =
       gone = zero_factor (pos c.combination.divisor) (coefficient new.entries j) (λ e. absurd (omega (arith, ints))) (c.combination.entries j ∙ gone);
     }
 
-mixed_by_keeping : (old pivot new : SparseRow) (j : ℕ) → coefficient old.entries j ≡ pos 0 → new ≡ old → IsMixed old pivot new j
+mixed_by_keeping : (old pivot new : SparseRow) (j : ℕ) → coefficient old.entries j ≡ pos 0 → new ≡ old →
+    IsMixed old pivot new j
 mixed_by_keeping old pivot new j none same =
     record {
       d = pos 1;
@@ -77,7 +82,8 @@ zero_or_other (pos (suc n)) = inr (λ h. absurd (omega (arith, ints)))
 zero_or_other (negsuc n) = inr (λ h. absurd (omega (arith, ints)))
 
 -- a mixed row where the pivot row has nothing: a positive part of the old entry
-mixed_kept : (old pivot new : SparseRow) (j k : ℕ) → IsMixed old pivot new j → coefficient pivot.entries k ≡ pos 0 → coefficient old.entries k ≡ pos 0 → coefficient new.entries k ≡ pos 0
+mixed_kept : (old pivot new : SparseRow) (j k : ℕ) → IsMixed old pivot new j → coefficient pivot.entries k ≡ pos 0 →
+    coefficient old.entries k ≡ pos 0 → coefficient new.entries k ≡ pos 0
 mixed_kept old pivot new j k m none old_none =
     zero_factor m.d (coefficient new.entries k) (nonzero m.d m.some)
     (let first = ap (λ (z : ℤ). m.u *ℤ z) old_none ∙ *ℤ-zero m.u in
@@ -85,7 +91,8 @@ mixed_kept old pivot new j k m none old_none =
     let at = m.entries k in
     omega (arith, ints))
 
-mixed_own : (old pivot new : SparseRow) (j k : ℕ) → IsMixed old pivot new j → coefficient pivot.entries k ≡ pos 0 → pos 0 <ℤ coefficient old.entries k → pos 0 <ℤ coefficient new.entries k
+mixed_own : (old pivot new : SparseRow) (j k : ℕ) → IsMixed old pivot new j → coefficient pivot.entries k ≡ pos 0 →
+    pos 0 <ℤ coefficient old.entries k → pos 0 <ℤ coefficient new.entries k
 mixed_own old pivot new j k m none up =
     factor_positive m.d (coefficient new.entries k) m.some
     (let first = times_positive m.u (coefficient old.entries k) m.up up in
@@ -103,8 +110,11 @@ exchanged e u v c p a balance =
     omega (arith, ints)
 
 -- the constant stays at least 0, where the pivot row comes first
-mixed_constant : (old pivot new : SparseRow) (j : ℕ) → IsMixed old pivot new j → pos 0 <ℤ coefficient pivot.entries j → pos 0 ≤ℤ old.constant → pos 0 ≤ℤ pivot.constant →
-    (pos 0 <ℤ coefficient old.entries j → (pivot.constant *ℤ coefficient old.entries j) ≤ℤ (old.constant *ℤ coefficient pivot.entries j)) → pos 0 ≤ℤ new.constant
+mixed_constant : (old pivot new : SparseRow) (j : ℕ) → IsMixed old pivot new j → pos 0 <ℤ coefficient pivot.entries j →
+    pos 0 ≤ℤ old.constant → pos 0 ≤ℤ pivot.constant →
+    (pos 0 <ℤ coefficient old.entries j →
+    (pivot.constant *ℤ coefficient old.entries j) ≤ℤ (old.constant *ℤ coefficient pivot.entries j)) →
+    pos 0 ≤ℤ new.constant
 mixed_constant old pivot new j m up old_up pivot_up before =
     let a = coefficient old.entries j in
     let e = coefficient pivot.entries j in
@@ -125,8 +135,10 @@ mixed_constant old pivot new j m up old_up pivot_up before =
     let inner = factor_up e ((m.u *ℤ c) -ℤ (m.v *ℤ p)) up (subst (λ (z : ℤ). pos 0 ≤ℤ z) (sym is) both) in
     factor_up m.d new.constant m.some (subst (λ (z : ℤ). pos 0 ≤ℤ z) (sym m.constant) inner)
 
-module _ (old new : Tableau) (j i : ℕ) (basic : IsBasic old) (row : IsPivotRow old j i) (pivoted : IsPivoted old j i new) where
-  pub mixed : (h : ℕ) → h < length old.rows → h ≢ i → IsMixed (row_at old.rows h) (row_at old.rows i) (row_at new.rows h) j
+module _ (old new : Tableau) (j i : ℕ) (basic : IsBasic old) (row : IsPivotRow old j i)
+    (pivoted : IsPivoted old j i new) where
+  pub mixed : (h : ℕ) → h < length old.rows → h ≢ i → IsMixed (row_at old.rows h) (row_at old.rows i)
+      (row_at new.rows h) j
   mixed h lt other =
       elim (zero_or_other (entry_at old h j)) [
         | inl none ↦ mixed_by_keeping (row_at old.rows h) (row_at old.rows i) (row_at new.rows h) j none (pivoted.kept h lt other none)
@@ -149,7 +161,8 @@ module _ (old new : Tableau) (j i : ℕ) (basic : IsBasic old) (row : IsPivotRow
       elim (cases_eq h i) [
         | inl is ↦
             subst (λ (n : ℕ). pos 0 <ℤ entry_at new n (basic_at new n)) (sym is)
-            (subst (λ (k : ℕ). pos 0 <ℤ entry_at new i k) (sym basic_pivot) (subst (λ (z : ℤ). pos 0 <ℤ z) (sym (pivot_entry j)) row.positive))
+            (subst (λ (k : ℕ). pos 0 <ℤ entry_at new i k) (sym basic_pivot)
+            (subst (λ (z : ℤ). pos 0 <ℤ z) (sym (pivot_entry j)) row.positive))
         | inr other ↦
             subst (λ (k : ℕ). pos 0 <ℤ entry_at new h k) (sym (basic_same h other))
             (mixed_own (row_at old.rows h) (row_at old.rows i) (row_at new.rows h) j (basic_at old h) (mixed h lt other)
@@ -199,7 +212,8 @@ module _ (old new : Tableau) (j i : ℕ) (basic : IsBasic old) (row : IsPivotRow
 
   -- a property of rows that combinations keep
   pub rows_keep : (P : SparseRow → Type 0) → ((h : ℕ) → h < length old.rows → P (row_at old.rows h)) →
-      ((h : ℕ) → h < length old.rows → IsCancelled (row_at old.rows h) (row_at old.rows i) j (row_at new.rows h) → P (row_at old.rows h) → P (row_at old.rows i) → P (row_at new.rows h)) →
+      ((h : ℕ) → h < length old.rows → IsCancelled (row_at old.rows h) (row_at old.rows i) j (row_at new.rows h) →
+      P (row_at old.rows h) → P (row_at old.rows i) → P (row_at new.rows h)) →
       (h : ℕ) → h < length old.rows → P (row_at new.rows h)
   rows_keep P all step h lt =
       elim (cases_eq h i) [

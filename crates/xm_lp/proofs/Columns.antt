@@ -1,11 +1,13 @@
 -- Row 0 read entry by entry.
-use Rattle.std.proofs.Common.{◌≡◌, ◌≢◌, ℕ, zero, suc, ◌<◌, ◌≤◌, cond, nat_eq, inl, inr, List, [], ◌∷◌, length, take, get_or, refl, sym, ◌∙◌, subst, arith, pos, ℤ, ◌<ℤ◌, ◌≤ℤ◌, All}
+use Rattle.std.proofs.Common.{◌≡◌, ◌≢◌, ℕ, zero, suc, ◌<◌, ◌≤◌, cond, nat_eq, inl, inr, List, [], ◌∷◌, length, take}
+use Rattle.std.proofs.Common.{get_or, refl, sym, ◌∙◌, subst, arith, pos, ℤ, ◌<ℤ◌, ◌≤ℤ◌, All}
 use Rattle.std.proofs.lemmas.Bool.{cases_eq}
 use Rattle.std.proofs.lemmas.Int.{ints}
 use Rattle.std.proofs.lemmas.List.Elements.{All-head, All-tail, All-weaker}
 use Rattle.xm_rows.specs.declared.row.Entry.{Entry}
 use Rattle.xm_rows.specs.Row.{IsRising, coefficient}
-use Rattle.xm_rows.specs.Lemmas.Entries.{own_column, other_column, coefficient_absent, rising_tail, rising_above, first_coefficient, later_coefficient}
+use Rattle.xm_rows.specs.Lemmas.Entries.{own_column, other_column, coefficient_absent, rising_tail, rising_above}
+use Rattle.xm_rows.specs.Lemmas.Entries.{first_coefficient, later_coefficient}
 use Rattle.xm_lp.specs.Start.{Tableau, row_at}
 use Rattle.xm_lp.specs.Pivot.{IsLast, IsPivotColumn}
 
@@ -28,7 +30,8 @@ all_up (e ∷ es) k up =
     omega (arith, ints)
 
 -- columns below that of entry i, where the entries before it are not negative
-pub passed : (es : List Entry) (i k : ℕ) (d : Entry) → i < length es → IsRising es → AreUp (take i es) → k < (get_or es i d).column → pos 0 ≤ℤ coefficient es k
+pub passed : (es : List Entry) (i k : ℕ) (d : Entry) → i < length es → IsRising es → AreUp (take i es) →
+    k < (get_or es i d).column → pos 0 ≤ℤ coefficient es k
 passed [] i k d lt up before low = absurd (omega arith)
 passed (e ∷ es) zero k d lt up before low =
     let none = coefficient_absent es k (All-weaker (λ f. e.column < f.column) (λ f. f.column ≢ k) (λ f p is. absurd (omega arith)) es (rising_above e es e.column (omega arith) up)) in
@@ -39,7 +42,8 @@ passed (e ∷ es) (suc i) k d lt up before low =
     let rest = passed es i k d (omega arith) (rising_tail e es up) (All-tail (λ e. pos 0 ≤ℤ e.value) e (take i es) before) low in
     omega (arith, ints)
 
-pub own_value : (es : List Entry) (i : ℕ) (d : Entry) → i < length es → IsRising es → coefficient es (get_or es i d).column ≡ (get_or es i d).value
+pub own_value : (es : List Entry) (i : ℕ) (d : Entry) → i < length es → IsRising es →
+    coefficient es (get_or es i d).column ≡ (get_or es i d).value
 own_value [] i d lt up = absurd (omega arith)
 own_value (e ∷ es) zero d lt up = first_coefficient e es e.column up refl
 own_value (e ∷ es) (suc i) d lt up =
@@ -47,7 +51,8 @@ own_value (e ∷ es) (suc i) d lt up =
     later_coefficient e es (get_or es i d).column (λ is. absurd (omega (arith, is, above))) ∙ own_value es i d (omega arith) (rising_tail e es up)
 
 -- an entry at or beyond the artificials ends the search
-pub none_before : (t : Tableau) (es : List Entry) (i a : ℕ) (d : Entry) → es ≡ (row_at t.rows 0).entries → i < length es → IsRising es → AreUp (take i es) →
+pub none_before : (t : Tableau) (es : List Entry) (i a : ℕ) (d : Entry) → es ≡ (row_at t.rows 0).entries →
+    i < length es → IsRising es → AreUp (take i es) →
     a ≤ (get_or es i d).column → IsLast t a
 none_before t es i a d is lt up before high k low =
     subst (λ (l : List Entry). pos 0 ≤ℤ coefficient l k) is (passed es i k d lt up before (omega arith))
@@ -55,7 +60,8 @@ none_before t es i a d is lt up before high k low =
 pub none_at_all : (t : Tableau) (es : List Entry) (a : ℕ) → es ≡ (row_at t.rows 0).entries → AreUp es → IsLast t a
 none_at_all t es a is up k low = subst (λ (l : List Entry). pos 0 ≤ℤ coefficient l k) is (all_up es k up)
 
-pub first_negative : (t : Tableau) (es : List Entry) (i a : ℕ) (d : Entry) → es ≡ (row_at t.rows 0).entries → i < length es → IsRising es → AreUp (take i es) →
+pub first_negative : (t : Tableau) (es : List Entry) (i a : ℕ) (d : Entry) → es ≡ (row_at t.rows 0).entries →
+    i < length es → IsRising es → AreUp (take i es) →
     (get_or es i d).column < a → (get_or es i d).value <ℤ pos 0 → IsPivotColumn t a (get_or es i d).column
 first_negative t es i a d is lt up before low negative =
     record {

@@ -1,5 +1,6 @@
 -- Sums of rows, each taken a number of times.
-use Rattle.std.proofs.Common.{◌≡◌, ◌≢◌, ℕ, zero, suc, ◌<◌, List, [], ◌∷◌, length, refl, sym, ◌∙◌, ap, ap₂, arith, pos, neg_ℤ, ℤ, ◌+ℤ◌, ◌-ℤ◌, ◌*ℤ◌}
+use Rattle.std.proofs.Common.{◌≡◌, ◌≢◌, ℕ, zero, suc, ◌<◌, List, [], ◌∷◌, length, refl, sym, ◌∙◌, ap, ap₂, arith, pos}
+use Rattle.std.proofs.Common.{neg_ℤ, ℤ, ◌+ℤ◌, ◌-ℤ◌, ◌*ℤ◌}
 use Rattle.std.proofs.lemmas.Int.{ints}
 use Rattle.std.proofs.Math.IntN.{*ℤ-zero, zero-*ℤ}
 use Rattle.xm_rows.specs.Row.{SparseRow, coefficient}
@@ -13,7 +14,8 @@ abbrev pub combined : (SparseRow → ℤ) → (ℕ → ℤ) → List SparseRow �
 combined f y [] = pos 0
 combined f y (r ∷ rs) = (y 0 *ℤ f r) +ℤ combined f (λ i. y (suc i)) rs
 
-pub combined_same : (f : SparseRow → ℤ) (y z : ℕ → ℤ) (rs : List SparseRow) → ((i : ℕ) → y i ≡ z i) → combined f y rs ≡ combined f z rs
+pub combined_same : (f : SparseRow → ℤ) (y z : ℕ → ℤ) (rs : List SparseRow) → ((i : ℕ) → y i ≡ z i) → combined f y rs ≡
+    combined f z rs
 combined_same f y z [] h = refl
 combined_same f y z (r ∷ rs) h = ap₂ ◌+ℤ◌ (ap (λ (n : ℤ). n *ℤ f r) (h 0)) (combined_same f (λ i. y (suc i)) (λ i. z (suc i)) rs (λ i. h (suc i)))
 
@@ -30,7 +32,8 @@ combined_less f u v y z (r ∷ rs) =
     let right = distrib v (z 0 *ℤ f r) (combined f (λ i. z (suc i)) rs) in
     omega (arith, ints)
 
-pub combined_scaled : (f : SparseRow → ℤ) (d : ℤ) (y : ℕ → ℤ) (rs : List SparseRow) → combined f (λ i. d *ℤ y i) rs ≡ d *ℤ combined f y rs
+pub combined_scaled : (f : SparseRow → ℤ) (d : ℤ) (y : ℕ → ℤ) (rs : List SparseRow) → combined f (λ i. d *ℤ y i) rs ≡
+    d *ℤ combined f y rs
 combined_scaled f d y [] = sym (*ℤ-zero d)
 combined_scaled f d y (r ∷ rs) =
     let rest = combined_scaled f d (λ i. y (suc i)) rs in
@@ -38,7 +41,8 @@ combined_scaled f d y (r ∷ rs) =
     let both = distrib d (y 0 *ℤ f r) (combined f (λ i. y (suc i)) rs) in
     omega (arith, ints)
 
-pub combined_none : (f : SparseRow → ℤ) (y : ℕ → ℤ) (rs : List SparseRow) → ((i : ℕ) → i < length rs → y i ≡ pos 0) → combined f y rs ≡ pos 0
+pub combined_none : (f : SparseRow → ℤ) (y : ℕ → ℤ) (rs : List SparseRow) → ((i : ℕ) → i < length rs → y i ≡ pos 0) →
+    combined f y rs ≡ pos 0
 combined_none f y [] h = refl
 combined_none f y (r ∷ rs) h =
     let rest = combined_none f (λ i. y (suc i)) rs (λ i lt. h (suc i) (omega arith)) in
@@ -75,8 +79,10 @@ pub record IsSum (rows : List SparseRow) (own : ℕ → ℕ) (r : SparseRow) : T
   pub constant : r.constant ≡ combined constant_of (λ i. coefficient r.entries (own i)) rows
 
 -- what f reads from t, where it reads the combination of r and s
-sum_by : (rows : List SparseRow) (f : SparseRow → ℤ) (d u v a b c : ℤ) (x y z : ℕ → ℤ) → d ≢ pos 0 → d *ℤ c ≡ (u *ℤ a) -ℤ (v *ℤ b) →
-    ((i : ℕ) → d *ℤ z i ≡ (u *ℤ x i) -ℤ (v *ℤ y i)) → a ≡ combined f x rows → b ≡ combined f y rows → c ≡ combined f z rows
+sum_by : (rows : List SparseRow) (f : SparseRow → ℤ) (d u v a b c : ℤ) (x y z : ℕ → ℤ) → d ≢ pos 0 → d *ℤ c ≡
+    (u *ℤ a) -ℤ (v *ℤ b) →
+    ((i : ℕ) → d *ℤ z i ≡ (u *ℤ x i) -ℤ (v *ℤ y i)) → a ≡ combined f x rows → b ≡ combined f y rows → c ≡
+    combined f z rows
 sum_by rows f d u v a b c x y z some here own is_a is_b =
     one_factor d c (combined f z rows) some
     (here

@@ -1,5 +1,7 @@
 -- The counts of an end whose row 0 has the constant 0 meet the constraints.
-use Rattle.std.proofs.Common.{◌≡◌, ◌≢◌, ◌⊎◌, ℕ, zero, suc, ◌+◌, ◌<◌, ◌≤◌, Bool, true, false, cond, inl, inr, List, [], ◌∷◌, ◌++◌, map, length, refl, sym, ◌∙◌, ap, subst, arith, pos, negsuc, neg_ℤ, ℤ, ◌+ℤ◌, ◌-ℤ◌, ◌*ℤ◌, ◌<ℤ◌, ◌≤ℤ◌, unsigned_abs, All}
+use Rattle.std.proofs.Common.{◌≡◌, ◌≢◌, ◌⊎◌, ℕ, zero, suc, ◌+◌, ◌<◌, ◌≤◌, Bool, true, false, cond, inl, inr, List, []}
+use Rattle.std.proofs.Common.{◌∷◌, ◌++◌, map, length, refl, sym, ◌∙◌, ap, subst, arith, pos, negsuc, neg_ℤ, ℤ, ◌+ℤ◌}
+use Rattle.std.proofs.Common.{◌-ℤ◌, ◌*ℤ◌, ◌<ℤ◌, ◌≤ℤ◌, unsigned_abs, All}
 use Rattle.std.specs.Int.{is_negative}
 use Rattle.std.proofs.lemmas.Bool.{cases_eq, cases_lt}
 use Rattle.std.proofs.lemmas.Int.{ints}
@@ -11,9 +13,10 @@ use Rattle.xm_rows.specs.Row.{left_side}
 use Rattle.xm_rows.specs.Points.{Meets}
 use Rattle.xm_rows.specs.Lemmas.Integers.{distrib, negated, times_negated, one_times, one_factor, zero_factor, crossed}
 use Rattle.xm_lp.specs.declared.decision.Con.{Con}
-use Rattle.xm_lp.specs.Start.{Tableau, AreBelow, row_at, slack_count, artificials, objective, negated as negated_entry, turned, signed, slack_entries, start_row, start_rows}
+use Rattle.xm_lp.specs.Start.{Tableau, AreBelow, row_at, slack_count, artificials, objective, negated as negated_entry}
+use Rattle.xm_lp.specs.Start.{turned, signed, slack_entries, start_row, start_rows}
 use Rattle.xm_lp.specs.Pivot.{entry_at, constant_at, basic_at}
-use Rattle.xm_lp.specs.Answer.{number_at, con_at, AreCounts}
+use Rattle.xm_lp.specs.Answer.{number_at, constraint_at, AreCounts}
 use Rattle.xm_lp.specs.Right.{IsMet, MeetsAll}
 use Rattle.xm_lp.proofs.Signs.{times_up, factor_up, factor_order, nonzero}
 use Rattle.xm_lp.proofs.Refuting.{is_negative_up}
@@ -52,7 +55,8 @@ row_met s t c m x meets none =
     let one = one_times (x t) in
     signed_abs c.row.constant (left_side c.row.entries x +ℤ left_side (slack_entries c.equal s) x) m (omega (arith, ints))
 
-met_at : (m : ℤ) (c : Con) (s : ℕ) (x : ℕ → ℤ) → pos 0 ≤ℤ x s → left_side c.row.entries x +ℤ left_side (slack_entries c.equal s) x ≡ m *ℤ c.row.constant → IsMet c m x
+met_at : (m : ℤ) (c : Con) (s : ℕ) (x : ℕ → ℤ) → pos 0 ≤ℤ x s →
+    left_side c.row.entries x +ℤ left_side (slack_entries c.equal s) x ≡ m *ℤ c.row.constant → IsMet c m x
 met_at m c s x up is =
     let slack = slack_side c.equal s x up in
     record {
@@ -62,13 +66,15 @@ met_at m c s x up is =
           omega (arith, ints);
     }
 
-rows_met : (s t i bound : ℕ) (cons : List Con) (m : ℤ) (x : ℕ → ℤ) → i < length cons → ((k : ℕ) → k < bound → pos 0 ≤ℤ x k) → s + slack_count cons ≤ bound →
-    Meets (row_at (start_rows s t cons) i) m x → x (t + i) ≡ pos 0 → IsMet (con_at cons i) m x
+rows_met : (s t i bound : ℕ) (constraints : List Con) (m : ℤ) (x : ℕ → ℤ) → i < length constraints →
+    ((k : ℕ) → k < bound → pos 0 ≤ℤ x k) → s + slack_count constraints ≤ bound →
+    Meets (row_at (start_rows s t constraints) i) m x → x (t + i) ≡ pos 0 → IsMet (constraint_at constraints i) m x
 rows_met s t i bound [] m x lt up within meets none = absurd (omega arith)
 rows_met s t zero bound (c ∷ cs) m x lt up within meets none =
     slack_or_none c.equal refl (row_met s t c m x meets (ap x (omega arith) ∙ none))
   where
-    slack_or_none : (equal : Bool) → c.equal ≡ equal → left_side c.row.entries x +ℤ left_side (slack_entries c.equal s) x ≡ m *ℤ c.row.constant → IsMet c m x
+    slack_or_none : (equal : Bool) → c.equal ≡ equal →
+        left_side c.row.entries x +ℤ left_side (slack_entries c.equal s) x ≡ m *ℤ c.row.constant → IsMet c m x
     slack_or_none true e is =
         let none : left_side (slack_entries c.equal s) x ≡ pos 0 = ap (λ (b : Bool). left_side (slack_entries b s) x) e in
         record { at_least = omega (arith, ints); equal = λ yes. omega (arith, ints) }
@@ -79,7 +85,8 @@ rows_met s t (suc i) bound (c ∷ cs) m x lt up within meets none =
     rows_met (cond c.equal 0 1 + s) (suc t) i bound cs m x (omega arith) up (omega arith) meets (ap x (omega arith) ∙ none)
 
 -- sides that are m and d times one another, column by column
-scaled_sides : (columns : ℕ) (es : List Entry) (m d : ℤ) (a b : ℕ → ℤ) → All (λ e. e.column < columns) es → ((k : ℕ) → k < columns → m *ℤ a k ≡ d *ℤ b k) →
+scaled_sides : (columns : ℕ) (es : List Entry) (m d : ℤ) (a b : ℕ → ℤ) → All (λ e. e.column < columns) es →
+    ((k : ℕ) → k < columns → m *ℤ a k ≡ d *ℤ b k) →
     m *ℤ left_side es a ≡ d *ℤ left_side es b
 scaled_sides columns [] m d a b below h = *ℤ-zero m ∙ sym (*ℤ-zero d)
 scaled_sides columns (e ∷ es) m d a b below h =
@@ -90,7 +97,8 @@ scaled_sides columns (e ∷ es) m d a b below h =
     omega (arith, ints)
 
 -- what is met over m is met over d
-met_over : (columns : ℕ) (c : Con) (m d : ℤ) (a b : ℕ → ℤ) → All (λ e. e.column < columns) c.row.entries → pos 0 <ℤ m → pos 0 <ℤ d →
+met_over : (columns : ℕ) (c : Con) (m d : ℤ) (a b : ℕ → ℤ) → All (λ e. e.column < columns) c.row.entries → pos 0 <ℤ m →
+    pos 0 <ℤ d →
     ((k : ℕ) → k < columns → m *ℤ a k ≡ d *ℤ b k) → IsMet c m b → IsMet c d a
 met_over columns c m d a b below up_m up_d h met =
     let sides = scaled_sides columns c.row.entries m d a b below h in
@@ -121,18 +129,21 @@ found f (suc n) k =
       ]
     ]
 
-con_below : (columns i : ℕ) (cons : List Con) → AreBelow columns cons → i < length cons → All (λ e. e.column < columns) (con_at cons i).row.entries
+con_below : (columns i : ℕ) (constraints : List Con) → AreBelow columns constraints → i < length constraints →
+    All (λ e. e.column < columns) (constraint_at constraints i).row.entries
 con_below columns i [] below lt = absurd (omega arith)
 con_below columns zero (c ∷ cs) below lt = All-head (λ c. All (λ e. e.column < columns) c.row.entries) c cs below
 con_below columns (suc i) (c ∷ cs) below lt = con_below columns i cs (All-tail (λ c. All (λ e. e.column < columns) c.row.entries) c cs below) (omega arith)
 
-module _ (cons : List Con) (columns : ℕ) (below : AreBelow columns cons) (t : Tableau) (s : IsSound cons columns t)
+module _ (constraints : List Con) (columns : ℕ) (below : AreBelow columns constraints) (t : Tableau)
+    (s : IsSound constraints columns t)
     (d : ℕ) (counts : List ℤ) (zero_left : constant_at t 0 ≡ pos 0) (are : AreCounts columns t d counts) where
-  point : Located t (suc (objective cons columns)) (pos 0)
-  point = basic_point cons columns below t s
+  point : Located t (suc (objective constraints columns)) (pos 0)
+  point = basic_point constraints columns below t s
 
   -- the counts, and the basic point, are one point over two denominators
-  counts_are : (l : Located t (suc (objective cons columns)) (pos 0)) (k : ℕ) → k < columns → l.m *ℤ number_at counts k ≡ pos d *ℤ l.x k
+  counts_are : (l : Located t (suc (objective constraints columns)) (pos 0)) (k : ℕ) → k < columns →
+      l.m *ℤ number_at counts k ≡ pos d *ℤ l.x k
   counts_are l k lt =
       elim (found (basic_at t) (length t.rows) k) [
         | inl at ↦
@@ -142,13 +153,15 @@ module _ (cons : List Con) (columns : ℕ) (below : AreBelow columns cons) (t : 
             let second = subst (λ (n : ℕ). entry_at t i n *ℤ l.x n ≡ l.m *ℤ constant_at t i) same (l.basics refl i at.1) in
             let own = subst (λ (n : ℕ). pos 0 <ℤ entry_at t i n) same (s.basic.own i at.1) in
             one_factor (entry_at t i k) (l.m *ℤ number_at counts k) (pos d *ℤ l.x k) (nonzero (entry_at t i k) own)
-            (crossed l.m (entry_at t i k) (number_at counts k) ∙ ap (λ (z : ℤ). l.m *ℤ z) first ∙ crossed (pos d) l.m (constant_at t i)
+            (crossed l.m (entry_at t i k)
+            (number_at counts k) ∙ ap (λ (z : ℤ). l.m *ℤ z) first ∙ crossed (pos d) l.m (constant_at t i)
             ∙ ap (λ (z : ℤ). pos d *ℤ z) (sym second) ∙ sym (crossed (pos d) (entry_at t i k) (l.x k)))
         | inr none ↦
             ap (λ (z : ℤ). l.m *ℤ z) (are.others k lt none) ∙ *ℤ-zero l.m ∙ sym (ap (λ (z : ℤ). pos d *ℤ z) (l.others refl k none) ∙ *ℤ-zero (pos d))
       ]
 
-  point_objective : (l : Located t (suc (objective cons columns)) (pos 0)) → l.x (objective cons columns) ≡ pos 0
+  point_objective : (l : Located t (suc (objective constraints columns)) (pos 0)) →
+      l.x (objective constraints columns) ≡ pos 0
   point_objective l =
       let count = s.count in
       let first = l.basics refl 0 (omega (arith, count)) in
@@ -156,18 +169,19 @@ module _ (cons : List Con) (columns : ℕ) (below : AreBelow columns cons) (t : 
       (first ∙ ap (λ (z : ℤ). l.m *ℤ z) zero_left ∙ *ℤ-zero l.m) in
       ap l.x (sym s.basic_top) ∙ none
 
-  point_meets : (l : Located t (suc (objective cons columns)) (pos 0)) (i : ℕ) → i < length cons → IsMet (con_at cons i) l.m l.x
+  point_meets : (l : Located t (suc (objective constraints columns)) (pos 0)) (i : ℕ) → i < length constraints →
+      IsMet (constraint_at constraints i) l.m l.x
   point_meets l i lt =
       let meets = s.back l.m l.x l.meets in
-      let up = λ (k : ℕ) (differ : k ≢ objective cons columns). l.signs k (λ e. differ (e ∙ s.basic_top)) in
-      let is = objective_is cons columns s.top l.m l.x below s.is_top meets in
+      let up = λ (k : ℕ) (differ : k ≢ objective constraints columns). l.signs k (λ e. differ (e ∙ s.basic_top)) in
+      let is = objective_is constraints columns s.top l.m l.x below s.is_top meets in
       let none = point_objective l in
-      let gone = units_gone (artificials cons columns) (length cons) l.x (λ k low high. up k (λ e. absurd (omega arith))) (omega (arith, ints)) in
-      let count = start_count columns (artificials cons columns) cons in
-      rows_met columns (artificials cons columns) i (artificials cons columns) cons l.m l.x lt (λ k before. up k (λ e. absurd (omega arith))) (omega arith)
-      (meets.each (suc i) (omega (arith, count, lt))) (gone (artificials cons columns + i) (omega arith) (omega arith))
+      let gone = units_gone (artificials constraints columns) (length constraints) l.x (λ k low high. up k (λ e. absurd (omega arith))) (omega (arith, ints)) in
+      let count = start_count columns (artificials constraints columns) constraints in
+      rows_met columns (artificials constraints columns) i (artificials constraints columns) constraints l.m l.x lt (λ k before. up k (λ e. absurd (omega arith))) (omega arith)
+      (meets.each (suc i) (omega (arith, count, lt))) (gone (artificials constraints columns + i) (omega arith) (omega arith))
 
-  counts_up : (l : Located t (suc (objective cons columns)) (pos 0)) (k : ℕ) → pos 0 ≤ℤ number_at counts k
+  counts_up : (l : Located t (suc (objective constraints columns)) (pos 0)) (k : ℕ) → pos 0 ≤ℤ number_at counts k
   counts_up l k =
       elim (cases_lt k columns) [
         | inl lt ↦
@@ -179,13 +193,13 @@ module _ (cons : List Con) (columns : ℕ) (below : AreBelow columns cons) (t : 
             omega (arith, ints)
       ]
 
-  pub counts_meet : MeetsAll cons columns (pos d) counts
+  pub counts_meet : MeetsAll constraints columns (pos d) counts
   counts_meet =
       let some = are.positive in
       record {
         positive = omega (arith, ints);
         count = are.count;
         signs = counts_up point;
-        met = λ i lt. met_over columns (con_at cons i) point.m (pos d) (number_at counts) point.x (con_below columns i cons below lt) point.up (omega (arith, ints))
+        met = λ i lt. met_over columns (constraint_at constraints i) point.m (pos d) (number_at counts) point.x (con_below columns i constraints below lt) point.up (omega (arith, ints))
             (counts_are point) (point_meets point i lt);
       }

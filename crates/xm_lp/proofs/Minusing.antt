@@ -1,5 +1,6 @@
 -- The objective's row, entry by entry.
-use Rattle.std.proofs.Common.{◌≡◌, ◌≢◌, ◌⊎◌, ℕ, zero, suc, ◌+◌, ◌<◌, ◌≤◌, inl, inr, List, [], ◌∷◌, ◌++◌, length, take, get_or, refl, sym, ◌∙◌, ap, subst, arith, pos, negsuc, neg_ℤ, ℤ, ◌+ℤ◌, ◌*ℤ◌, All}
+use Rattle.std.proofs.Common.{◌≡◌, ◌≢◌, ◌⊎◌, ℕ, zero, suc, ◌+◌, ◌<◌, ◌≤◌, inl, inr, List, [], ◌∷◌, ◌++◌, length, take}
+use Rattle.std.proofs.Common.{get_or, refl, sym, ◌∙◌, ap, subst, arith, pos, negsuc, neg_ℤ, ℤ, ◌+ℤ◌, ◌*ℤ◌, All}
 use Rattle.std.proofs.lemmas.Bool.{cases_eq, cases_lt}
 use Rattle.std.proofs.Common.{to_z, of_z, SFits, ◌-ℤ◌}
 use Rattle.std.specs.Int.{w128}
@@ -8,7 +9,8 @@ use Rattle.std.proofs.lemmas.List.{take_more, take_all}
 use Rattle.std.proofs.lemmas.List.Elements.{All-nil, All-push, All-weaker, All-head, All-tail}
 use Rattle.xm_rows.specs.declared.row.Entry.{Entry}
 use Rattle.xm_rows.specs.Row.{SparseRow, Fits128, IsRising, IsRow, coefficient}
-use Rattle.xm_rows.specs.Lemmas.Entries.{own_column, other_column, coefficient-append, coefficient_absent, rising_push, rising_tail, first_coefficient, later_coefficient}
+use Rattle.xm_rows.specs.Lemmas.Entries.{own_column, other_column, coefficient-append, coefficient_absent, rising_push}
+use Rattle.xm_rows.specs.Lemmas.Entries.{rising_tail, first_coefficient, later_coefficient}
 use Rattle.xm_rows.specs.Lemmas.Integers.{one_times}
 use Rattle.xm_lp.specs.Start.{SumsFit, total, in_column, constant_of}
 use Rattle.xm_lp.specs.Answer.{number_at}
@@ -40,14 +42,16 @@ neg_fits (pos zero) h = h
 neg_fits (pos (suc n)) h = h
 neg_fits (negsuc n) h = h
 
-one_entry : (column k : ℕ) (value : ℤ) (es : List Entry) → coefficient (es ++ record { column = column; value = value } ∷ []) k ≡
+one_entry : (column k : ℕ) (value : ℤ) (es : List Entry) →
+    coefficient (es ++ record { column = column; value = value } ∷ []) k ≡
     (coefficient es k +ℤ coefficient (record { column = column; value = value } ∷ []) k)
 one_entry column k value es = coefficient-append es (record { column = column; value = value } ∷ []) k
 
 absent : (es : List Entry) (i k : ℕ) → All (λ e. e.column < i) es → i ≤ k → coefficient es k ≡ pos 0
 absent es i k below past = coefficient_absent es k (All-weaker (λ e. e.column < i) (λ e. e.column ≢ k) (λ e lt is. absurd (omega arith)) es below)
 
-pub minus_pushed : (sums : List ℤ) (i : ℕ) (es : List Entry) (value : ℤ) → AreMinusBelow sums i es → number_at sums i ≢ pos 0 → Fits128 (number_at sums i) →
+pub minus_pushed : (sums : List ℤ) (i : ℕ) (es : List Entry) (value : ℤ) → AreMinusBelow sums i es →
+    number_at sums i ≢ pos 0 → Fits128 (number_at sums i) →
     value ≡ neg_ℤ (number_at sums i) → AreMinusBelow sums (i + 1) (es ++ record { column = i; value = value } ∷ [])
 minus_pushed sums i es value m some fits is =
     let e : Entry = record { column = i; value = value } in
@@ -71,7 +75,8 @@ minus_pushed sums i es value m some fits is =
       ];
     }
 
-pub minus_passed : (sums : List ℤ) (i : ℕ) (es : List Entry) → AreMinusBelow sums i es → number_at sums i ≡ pos 0 → AreMinusBelow sums (i + 1) es
+pub minus_passed : (sums : List ℤ) (i : ℕ) (es : List Entry) → AreMinusBelow sums i es → number_at sums i ≡ pos 0 →
+    AreMinusBelow sums (i + 1) es
 minus_passed sums i es m none =
     record {
       rising = m.rising;
@@ -87,7 +92,8 @@ minus_passed sums i es m none =
       ];
     }
 
-pub minus_done : (sums : List ℤ) (i objective : ℕ) (es : List Entry) → AreMinusBelow sums i es → i ≡ length sums → i ≤ objective →
+pub minus_done : (sums : List ℤ) (i objective : ℕ) (es : List Entry) → AreMinusBelow sums i es → i ≡ length sums →
+    i ≤ objective →
     AreMinus sums objective (es ++ record { column = objective; value = pos 1 } ∷ [])
 minus_done sums i objective es m is within =
     let e : Entry = record { column = objective; value = pos 1 } in
@@ -126,7 +132,8 @@ total_append : (f : SparseRow → ℤ) (xs ys : List SparseRow) → total f (xs 
 total_append f [] ys = omega (arith, ints)
 total_append f (x ∷ xs) ys = let rest = total_append f xs ys in omega (arith, ints)
 
-pub total_more : (f : SparseRow → ℤ) (rows : List SparseRow) (i : ℕ) (d : SparseRow) → i < length rows → total f (take (i + 1) rows) ≡ (total f (take i rows) +ℤ f (get_or rows i d))
+pub total_more : (f : SparseRow → ℤ) (rows : List SparseRow) (i : ℕ) (d : SparseRow) → i < length rows →
+    total f (take (i + 1) rows) ≡ (total f (take i rows) +ℤ f (get_or rows i d))
 total_more f rows i d lt =
     let apart = total_append f (take i rows) (get_or rows i d ∷ []) in
     let more = ap (total f) (take_more rows i d lt) in
@@ -135,7 +142,8 @@ total_more f rows i d lt =
 pub zero_fits : Fits128 (pos 0)
 zero_fits = omega arith
 
-pub tally_none : (rows : List SparseRow) (first : ℕ) (sums : List ℤ) → length sums ≡ first → ((k : ℕ) → number_at sums k ≡ pos 0) → IsTally rows first 0 sums (pos 0)
+pub tally_none : (rows : List SparseRow) (first : ℕ) (sums : List ℤ) → length sums ≡ first →
+    ((k : ℕ) → number_at sums k ≡ pos 0) → IsTally rows first 0 sums (pos 0)
 tally_none rows first sums count none =
     record {
       count = count;
@@ -157,8 +165,10 @@ beyond [] k past = refl
 beyond (x ∷ xs) zero past = absurd (omega arith)
 beyond (x ∷ xs) (suc k) past = beyond xs k (omega arith)
 
-pub tally_more : (rows : List SparseRow) (first i : ℕ) (sums added : List ℤ) (constant next : ℤ) (row : SparseRow) → IsTally rows first i sums constant → i < length rows →
-    row ≡ get_or rows i row → AreAdded sums (pos 1) row.entries added → Fits128 (constant +ℤ row.constant) → next ≡ (constant +ℤ row.constant) → IsTally rows first (i + 1) added next
+pub tally_more : (rows : List SparseRow) (first i : ℕ) (sums added : List ℤ) (constant next : ℤ) (row : SparseRow) →
+    IsTally rows first i sums constant → i < length rows →
+    row ≡ get_or rows i row → AreAdded sums (pos 1) row.entries added → Fits128 (constant +ℤ row.constant) → next ≡
+    (constant +ℤ row.constant) → IsTally rows first (i + 1) added next
 tally_more rows first i sums added constant next row t lt is_row a fits is_next =
     record {
       count = a.count ∙ t.count;
@@ -196,7 +206,8 @@ tally_more rows first i sums added constant next row t lt is_row a fits is_next 
         let one = one_times (coefficient row.entries k) in
         omega (arith, ints)
 
-pub constants_leave : (rows : List SparseRow) (first i : ℕ) (sums : List ℤ) (constant : ℤ) (row : SparseRow) → IsTally rows first i sums constant → i < length rows →
+pub constants_leave : (rows : List SparseRow) (first i : ℕ) (sums : List ℤ) (constant : ℤ) (row : SparseRow) →
+    IsTally rows first i sums constant → i < length rows →
     row ≡ get_or rows i row → ¬ Fits128 (constant +ℤ row.constant) → ¬ SumsFit rows first
 constants_leave rows first i sums constant row t lt is_row leaves fits =
     let more = total_more constant_of rows i row lt in
@@ -205,7 +216,8 @@ constants_leave rows first i sums constant row t lt is_row leaves fits =
     let same : total constant_of (take (i + 1) rows) ≡ (constant +ℤ row.constant) = omega (arith, ints) in
     leaves (subst Fits128 same (fits.constants (i + 1)))
 
-pub coefficient_fits : (es : List Entry) (k : ℕ) → IsRising es → All (λ e. Fits128 e.value) es → Fits128 (coefficient es k)
+pub coefficient_fits : (es : List Entry) (k : ℕ) → IsRising es → All (λ e. Fits128 e.value) es →
+    Fits128 (coefficient es k)
 coefficient_fits [] k up fit = zero_fits
 coefficient_fits (e ∷ es) k up fit =
     elim (cases_eq e.column k) [
@@ -213,7 +225,8 @@ coefficient_fits (e ∷ es) k up fit =
       | inr other ↦ subst Fits128 (sym (later_coefficient e es k other)) (coefficient_fits es k (rising_tail e es up) (All-tail (λ e. Fits128 e.value) e es fit))
     ]
 
-pub columns_leave : (rows : List SparseRow) (first i : ℕ) (sums : List ℤ) (constant : ℤ) (row : SparseRow) → IsTally rows first i sums constant → i < length rows →
+pub columns_leave : (rows : List SparseRow) (first i : ℕ) (sums : List ℤ) (constant : ℤ) (row : SparseRow) →
+    IsTally rows first i sums constant → i < length rows →
     row ≡ get_or rows i row → IsRow row → AddingLeaves sums (pos 1) row.entries → ¬ SumsFit rows first
 columns_leave rows first i sums constant row t lt is_row is leaves fits =
     let k = leaves.0 in
@@ -228,7 +241,8 @@ columns_leave rows first i sums constant row t lt is_row is leaves fits =
       sum = subst Fits128 same (fits.columns (i + 1) k (omega (arith, t.count, below)));
     })
 
-pub tally_done : (rows : List SparseRow) (first objective i : ℕ) (sums : List ℤ) (constant turned : ℤ) (es : List Entry) → IsTally rows first i sums constant → length rows ≤ i →
+pub tally_done : (rows : List SparseRow) (first objective i : ℕ) (sums : List ℤ) (constant turned : ℤ)
+    (es : List Entry) → IsTally rows first i sums constant → length rows ≤ i →
     AreMinus sums objective es → turned ≡ neg_ℤ constant → first ≤ objective → Fits128 constant → IsTopOf rows first objective (record { entries = es; constant = turned })
 tally_done rows first objective i sums constant turned es t past m is_turned within constant_fits =
     let all = take_all i rows past in

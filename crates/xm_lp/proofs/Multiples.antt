@@ -6,7 +6,9 @@ use Rattle.std.specs.Int.{◌∣◌, IsGcd}
 use Rattle.xm_lp.specs.Inner.Multiple.{IsLeastMultiple}
 use Rattle.std.proofs.lemmas.Nat.Gcd.{dvd_trans, IsGcd-from_zero, IsGcd-swap, IsGcd-from_mod}
 use Rattle.std.proofs.lemmas.Nat.Gcd.{dvd_antisymm}
-use Rattle.std.proofs.Math.Nat.{le-mul_of_pos_right, pos_of_dvd_of_pos, mul-le-mul_left, div-mul_cancel, mod-lt, mul-dvd-mul_left, mul-dvd-mul_right, dvd-mul_left, dvd-mul_right, dvd_of_mul-dvd-mul_left, dvd_of_mul-dvd-mul_right}
+use Rattle.std.proofs.Math.Nat.{le-mul_of_pos_right, pos_of_dvd_of_pos, mul-le-mul_left, div-mul_cancel, mod-lt}
+use Rattle.std.proofs.Math.Nat.{mul-dvd-mul_left, mul-dvd-mul_right, dvd-mul_left, dvd-mul_right}
+use Rattle.std.proofs.Math.Nat.{dvd_of_mul-dvd-mul_left, dvd_of_mul-dvd-mul_right}
 
 pub record HasGcd (a b : ℕ) : Type 0 where
   pub divisor : ℕ

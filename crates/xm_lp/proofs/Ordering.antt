@@ -1,5 +1,6 @@
 -- The order of the ratio test.
-use Rattle.std.proofs.Common.{◌≡◌, ◌⊎◌, ℕ, zero, suc, ◌+◌, ◌<◌, inl, inr, Some, None, Option, List, [], ◌∷◌, length, get_or, refl, sym, ◌∙◌, ap, subst, arith, pos, ℤ, ◌-ℤ◌, ◌*ℤ◌, ◌<ℤ◌, ◌≤ℤ◌, neg_ℤ}
+use Rattle.std.proofs.Common.{◌≡◌, ◌⊎◌, ℕ, zero, suc, ◌+◌, ◌<◌, inl, inr, Some, None, Option, List, [], ◌∷◌, length}
+use Rattle.std.proofs.Common.{get_or, refl, sym, ◌∙◌, ap, subst, arith, pos, ℤ, ◌-ℤ◌, ◌*ℤ◌, ◌<ℤ◌, ◌≤ℤ◌, neg_ℤ}
 use Rattle.std.proofs.lemmas.Int.{ints}
 use Rattle.std.proofs.Math.IntN.{*ℤ_comm}
 use Rattle.xm_rows.specs.Lemmas.Integers.{distrib, times_negated, crossed}
@@ -37,7 +38,8 @@ factor_less f a b up lt =
     omega (arith, ints)
 
 -- c / e before d / f before g / k: f c k is k c f, and f g e is e g f
-pub precedes_trans : (c e d f g k : ℤ) (x y z : ℕ) → pos 0 <ℤ e → pos 0 <ℤ f → pos 0 <ℤ k → Precedes c e x d f y → Precedes d f y g k z → Precedes c e x g k z
+pub precedes_trans : (c e d f g k : ℤ) (x y z : ℕ) → pos 0 <ℤ e → pos 0 <ℤ f → pos 0 <ℤ k → Precedes c e x d f y →
+    Precedes d f y g k z → Precedes c e x g k z
 precedes_trans c e d f g k x y z up_e up_f up_k one two =
     let left : f *ℤ (c *ℤ k) ≡ k *ℤ (c *ℤ f) = ap (λ (n : ℤ). f *ℤ n) (*ℤ_comm c k) ∙ crossed k f c ∙ ap (λ (n : ℤ). k *ℤ n) (*ℤ_comm f c) in
     let right : f *ℤ (g *ℤ e) ≡ e *ℤ (g *ℤ f) = ap (λ (n : ℤ). f *ℤ n) (*ℤ_comm g e) ∙ crossed e f g ∙ ap (λ (n : ℤ). e *ℤ n) (*ℤ_comm f g) in
@@ -69,7 +71,8 @@ pub record IsBest (t : Tableau) (j i : ℕ) (r : Ratio) : Type 0 where
   pub constant : r.constant ≡ constant_at t r.row
   pub entry : r.entry ≡ entry_at t r.row j
   pub basic : r.basic ≡ basic_at t r.row
-  pub first : (h : ℕ) → 0 < h → h < i → pos 0 <ℤ entry_at t h j → Precedes r.constant r.entry r.basic (constant_at t h) (entry_at t h j) (basic_at t h)
+  pub first : (h : ℕ) → 0 < h → h < i → pos 0 <ℤ entry_at t h j → Precedes r.constant r.entry r.basic (constant_at t h)
+      (entry_at t h j) (basic_at t h)
 
 abbrev pub IsBestOf : Tableau → ℕ → ℕ → Option Ratio → Type 0
 IsBestOf t j i None = (h : ℕ) → 0 < h → h < i → entry_at t h j ≤ℤ pos 0
@@ -79,7 +82,8 @@ last_or_below : (h i : ℕ) → h < i + 1 → (h ≡ i) ⊎ (h < i)
 last_or_below h i lt = grind arith
 
 -- a row without a positive entry changes nothing
-pub best_passed : (t : Tableau) (j i : ℕ) (best : Option Ratio) → IsBestOf t j i best → entry_at t i j ≤ℤ pos 0 → IsBestOf t j (i + 1) best
+pub best_passed : (t : Tableau) (j i : ℕ) (best : Option Ratio) → IsBestOf t j i best → entry_at t i j ≤ℤ pos 0 →
+    IsBestOf t j (i + 1) best
 best_passed t j i None h none = λ g some lt.
     elim (last_or_below g i lt) [ inl is ↦ subst (λ (n : ℕ). entry_at t n j ≤ℤ pos 0) (sym is) none | inr below ↦ h g some below ]
 best_passed t j i (Some r) h none =
@@ -108,9 +112,11 @@ none_is_some r e = absurd (subst (λ (o : Option Ratio). IsNoneBy o) e tt)
     IsNoneBy (Some r) = ⊥
 
 -- r is the best of the rows up to i
-made : (t : Tableau) (j i : ℕ) (ratio r : Ratio) → 0 < r.row → r.row < i + 1 → IsRatio r → r.constant ≡ constant_at t r.row → r.entry ≡ entry_at t r.row j → r.basic ≡ basic_at t r.row →
+made : (t : Tableau) (j i : ℕ) (ratio r : Ratio) → 0 < r.row → r.row < i + 1 → IsRatio r → r.constant ≡
+    constant_at t r.row → r.entry ≡ entry_at t r.row j → r.basic ≡ basic_at t r.row →
     ratio.constant ≡ constant_at t i → ratio.entry ≡ entry_at t i j → ratio.basic ≡ basic_at t i → IsBefore r ratio →
-    ((h : ℕ) → 0 < h → h < i → pos 0 <ℤ entry_at t h j → Precedes r.constant r.entry r.basic (constant_at t h) (entry_at t h j) (basic_at t h)) → IsBest t j (i + 1) r
+    ((h : ℕ) → 0 < h → h < i → pos 0 <ℤ entry_at t h j → Precedes r.constant r.entry r.basic (constant_at t h)
+    (entry_at t h j) (basic_at t h)) → IsBest t j (i + 1) r
 made t j i ratio r above below is c e b at_c at_e at_b before rest =
     record {
       above = above;
@@ -132,9 +138,11 @@ made t j i ratio r above below is c e b at_c at_e at_b before rest =
         (subst (λ (z : ℤ). Precedes r.constant r.entry r.basic z ratio.entry ratio.basic) at_c before))
 
 -- the first of the best and of row i's ratio
-pub best_taken : (t : Tableau) (j i : ℕ) (best : Option Ratio) (ratio r : Ratio) → IsBestOf t j i best → 0 < i → ratio.row ≡ i → IsRatio ratio →
+pub best_taken : (t : Tableau) (j i : ℕ) (best : Option Ratio) (ratio r : Ratio) → IsBestOf t j i best → 0 < i →
+    ratio.row ≡ i → IsRatio ratio →
     ratio.constant ≡ constant_at t i → ratio.entry ≡ entry_at t i j → ratio.basic ≡ basic_at t i →
-    (r ≡ ratio) ⊎ (best ≡ Some r) → IsBefore r ratio → ((other : Ratio) → best ≡ Some other → IsBefore r other) → IsBest t j (i + 1) r
+    (r ≡ ratio) ⊎ (best ≡ Some r) → IsBefore r ratio → ((other : Ratio) → best ≡ Some other → IsBefore r other) →
+    IsBest t j (i + 1) r
 best_taken t j i best ratio r h some place is c e b one before others =
     elim one [
       | inl same ↦
@@ -151,15 +159,18 @@ best_taken t j i best ratio r h some place is c e b one before others =
           made t j i ratio r old.above (omega (arith, below)) old.ratio old.constant old.entry old.basic c e b before old.first
     ]
   where
-    rest_of : (best : Option Ratio) → IsBestOf t j i best → ((other : Ratio) → best ≡ Some other → IsBefore r other) → IsRatio r →
-        (h : ℕ) → 0 < h → h < i → pos 0 <ℤ entry_at t h j → Precedes r.constant r.entry r.basic (constant_at t h) (entry_at t h j) (basic_at t h)
+    rest_of : (best : Option Ratio) → IsBestOf t j i best → ((other : Ratio) → best ≡ Some other → IsBefore r other) →
+        IsRatio r →
+        (h : ℕ) → 0 < h → h < i → pos 0 <ℤ entry_at t h j → Precedes r.constant r.entry r.basic (constant_at t h)
+        (entry_at t h j) (basic_at t h)
     rest_of None none others is = λ h some lt up. absurd (let down = none h some lt in omega (arith, ints))
     rest_of (Some b) best others is = λ h some lt up.
         precedes_trans r.constant r.entry b.constant b.entry (constant_at t h) (entry_at t h j) r.basic b.basic (basic_at t h)
         is.entry best.ratio.entry up (others b refl) (best.first h some lt up)
 
 -- the number read at an index is that of the definitions
-pub read_row : (rows : List SparseRow) (i : ℕ) (r : SparseRow) (given : List SparseRow) → given ≡ rows → i < length rows → r ≡ get_or given i r → r ≡ row_at rows i
+pub read_row : (rows : List SparseRow) (i : ℕ) (r : SparseRow) (given : List SparseRow) → given ≡ rows →
+    i < length rows → r ≡ get_or given i r → r ≡ row_at rows i
 read_row rows i r given is lt at = at ∙ ap (λ (l : List SparseRow). get_or l i r) is ∙ same_default rows i lt
   where
     same_default : (xs : List SparseRow) (i : ℕ) → i < length xs → get_or xs i r ≡ row_at xs i

@@ -1,5 +1,7 @@
 -- Points of the first tableau, and the basic point of a tableau.
-use Rattle.std.proofs.Common.{◌≡◌, ◌≢◌, ℕ, zero, suc, ◌+◌, ◌<◌, ◌≤◌, cond, nat_eq, inl, inr, List, [], ◌∷◌, ◌++◌, length, refl, sym, ◌∙◌, ap, subst, arith, pos, ℤ, ◌+ℤ◌, ◌-ℤ◌, ◌*ℤ◌, ◌<ℤ◌, ◌≤ℤ◌, All, eq-eqb, ne_eqb}
+use Rattle.std.proofs.Common.{◌≡◌, ◌≢◌, ℕ, zero, suc, ◌+◌, ◌<◌, ◌≤◌, cond, nat_eq, inl, inr, List, [], ◌∷◌, ◌++◌}
+use Rattle.std.proofs.Common.{length, refl, sym, ◌∙◌, ap, subst, arith, pos, ℤ, ◌+ℤ◌, ◌-ℤ◌, ◌*ℤ◌, ◌<ℤ◌, ◌≤ℤ◌, All}
+use Rattle.std.proofs.Common.{eq-eqb, ne_eqb}
 use Rattle.std.proofs.lemmas.Bool.{cases_eq, cases_lt, cond-true, cond-false}
 use Rattle.std.proofs.lemmas.List.Elements.{All-tail}
 use Rattle.std.proofs.lemmas.Int.{ints}
@@ -8,10 +10,12 @@ use Rattle.xm_rows.specs.declared.row.Entry.{Entry}
 use Rattle.xm_rows.specs.Row.{SparseRow, coefficient, left_side}
 use Rattle.xm_rows.specs.Points.{Meets}
 use Rattle.xm_rows.specs.Lemmas.Entries.{own_column, other_column, coefficient-append}
-use Rattle.xm_rows.specs.Lemmas.Integers.{distrib, distrib_right, assoc, one_times, times_negated, times_difference, crossed}
+use Rattle.xm_rows.specs.Lemmas.Integers.{distrib, distrib_right, assoc, one_times, times_negated, times_difference}
+use Rattle.xm_rows.specs.Lemmas.Integers.{crossed}
 use Rattle.xm_rows.specs.Lemmas.Meeting.{column_sum, combined_sides}
 use Rattle.xm_lp.specs.declared.decision.Con.{Con}
-use Rattle.xm_lp.specs.Start.{Tableau, AreBelow, row_at, slack_count, artificials, objective, start_rows, total, in_column, constant_of, IsTop}
+use Rattle.xm_lp.specs.Start.{Tableau, AreBelow, row_at, slack_count, artificials, objective, start_rows, total}
+use Rattle.xm_lp.specs.Start.{in_column, constant_of, IsTop}
 use Rattle.xm_lp.specs.Pivot.{entry_at, constant_at, basic_at}
 use Rattle.xm_lp.proofs.Signs.{times_up, times_positive, factor_up, sum_up}
 use Rattle.xm_lp.proofs.Starting.{artificial_entries, first_rows}
@@ -23,7 +27,8 @@ pub side_append : (xs ys : List Entry) (x : ℕ → ℤ) → left_side (xs ++ ys
 side_append [] ys x = sym (+ℤ_idl (left_side ys x))
 side_append (e ∷ xs) ys x = let rest = side_append xs ys x in omega (arith, ints)
 
-pub same_sides : (a b : List Entry) (x : ℕ → ℤ) → ((k : ℕ) → coefficient a k ≡ coefficient b k) → left_side a x ≡ left_side b x
+pub same_sides : (a b : List Entry) (x : ℕ → ℤ) → ((k : ℕ) → coefficient a k ≡ coefficient b k) → left_side a x ≡
+    left_side b x
 same_sides a b x h =
     let is = combined_sides a b [] (pos 1) (pos 1) (pos 0) x (λ k. alone (coefficient a k) (coefficient b k) (h k)) in
     let one = one_times (left_side a x) in
@@ -62,7 +67,8 @@ side_unit (e ∷ es) j w =
     ] in
     omega (arith, ints)
 
-side_sum : (es : List Entry) (n : ℕ) (g : ℕ → ℕ → ℤ) → left_side es (λ k. column_sum n (λ i. g i k)) ≡ column_sum n (λ i. left_side es (g i))
+side_sum : (es : List Entry) (n : ℕ) (g : ℕ → ℕ → ℤ) → left_side es (λ k. column_sum n (λ i. g i k)) ≡
+    column_sum n (λ i. left_side es (g i))
 side_sum es zero g = side_none es
 side_sum es (suc n) g =
     side_add es (λ k. column_sum n (λ i. g i k)) (g n) ∙ ap (λ (z : ℤ). z +ℤ left_side es (g n)) (side_sum es n g)
@@ -101,7 +107,8 @@ flat_coefficient [] k = refl
 flat_coefficient (r ∷ rs) k =
     coefficient-append r.entries (flat rs) k ∙ ap (λ (z : ℤ). coefficient r.entries k +ℤ z) (flat_coefficient rs k)
 
-flat_side : (rs : List SparseRow) (m : ℤ) (x : ℕ → ℤ) → ((i : ℕ) → i < length rs → Meets (row_at rs i) m x) → left_side (flat rs) x ≡ m *ℤ total constant_of rs
+flat_side : (rs : List SparseRow) (m : ℤ) (x : ℕ → ℤ) → ((i : ℕ) → i < length rs → Meets (row_at rs i) m x) →
+    left_side (flat rs) x ≡ m *ℤ total constant_of rs
 flat_side [] m x h = sym (*ℤ-zero m)
 flat_side (r ∷ rs) m x h =
     let rest = flat_side rs m x (λ i lt. h (suc i) (omega arith)) in
@@ -118,8 +125,9 @@ units_before t (suc n) k lt =
     omega (arith, ints)
 
 -- beyond the slacks the start rows have 1 in their artificial columns and nothing else
-units_are : (columns s t k : ℕ) (cons : List Con) → AreBelow columns cons → columns ≤ s → s + slack_count cons ≤ k →
-    total (in_column k) (start_rows s t cons) ≡ coefficient (units t (length cons)) k
+units_are : (columns s t k : ℕ) (constraints : List Con) → AreBelow columns constraints → columns ≤ s →
+    s + slack_count constraints ≤ k →
+    total (in_column k) (start_rows s t constraints) ≡ coefficient (units t (length constraints)) k
 units_are columns s t k [] below over beyond = refl
 units_are columns s t k (c ∷ cs) below over beyond =
     let here = artificial_entries columns s t k 0 (c ∷ cs) below over beyond (omega arith) in
@@ -135,7 +143,8 @@ units_up t (suc n) x h =
     let one = one_times (x t) in
     omega (arith, ints)
 
-pub units_gone : (t n : ℕ) (x : ℕ → ℤ) → ((k : ℕ) → t ≤ k → k < t + n → pos 0 ≤ℤ x k) → left_side (units t n) x ≤ℤ pos 0 →
+pub units_gone : (t n : ℕ) (x : ℕ → ℤ) → ((k : ℕ) → t ≤ k → k < t + n → pos 0 ≤ℤ x k) →
+    left_side (units t n) x ≤ℤ pos 0 →
     (k : ℕ) → t ≤ k → k < t + n → x k ≡ pos 0
 units_gone t zero x h none k low high = absurd (omega arith)
 units_gone t (suc n) x h none k low high =
@@ -147,52 +156,58 @@ units_gone t (suc n) x h none k low high =
       | inr other ↦ units_gone (suc t) n x (λ k low high. h k (omega arith) (omega arith)) (omega (arith, ints)) k (omega arith) (omega arith)
     ]
 
-pub objective_is : (cons : List Con) (columns : ℕ) (top : SparseRow) (m : ℤ) (x : ℕ → ℤ) → AreBelow columns cons →
-    IsTop (start_rows columns (artificials cons columns) cons) (artificials cons columns) (objective cons columns) top →
-    MeetsRows (first_rows cons columns top) m x → x (objective cons columns) +ℤ left_side (units (artificials cons columns) (length cons)) x ≡ pos 0
-objective_is cons columns top m x below is_top meets =
-    let t = artificials cons columns in
-    let o = objective cons columns in
-    let rows = start_rows columns t cons in
+pub objective_is : (constraints : List Con) (columns : ℕ) (top : SparseRow) (m : ℤ) (x : ℕ → ℤ) →
+    AreBelow columns constraints →
+    IsTop (start_rows columns (artificials constraints columns) constraints) (artificials constraints columns) (objective constraints columns) top →
+    MeetsRows (first_rows constraints columns top) m x →
+    x (objective constraints columns) +ℤ left_side (units (artificials constraints columns) (length constraints)) x ≡ pos 0
+objective_is constraints columns top m x below is_top meets =
+    let t = artificials constraints columns in
+    let o = objective constraints columns in
+    let rows = start_rows columns t constraints in
     let at_top = meets.each 0 (omega arith) in
     let at_rows = flat_side rows m x (λ i lt. meets.each (suc i) (omega arith)) in
     let left = side_append top.entries (flat rows) x in
-    let same = same_sides (top.entries ++ flat rows) (record { column = o; value = pos 1 } ∷ units t (length cons)) x
-    (λ k. coefficient-append top.entries (flat rows) k ∙ ap (λ (z : ℤ). coefficient top.entries k +ℤ z) (flat_coefficient rows k) ∙ at_column k) in
+    let same = same_sides (top.entries ++ flat rows) (record { column = o; value = pos 1 } ∷ units t (length constraints)) x
+    (λ k. coefficient-append top.entries (flat rows) k ∙ ap (λ (z : ℤ). coefficient top.entries k +ℤ z)
+    (flat_coefficient rows k) ∙ at_column k) in
     let constants = ap (λ (z : ℤ). m *ℤ z) is_top.constant ∙ times_negated m (total constant_of rows) in
     let one = one_times (x o) in
     omega (arith, ints)
   where
-    at_column : (k : ℕ) → coefficient top.entries k +ℤ total (in_column k) (start_rows columns (artificials cons columns) cons)
-        ≡ coefficient (record { column = objective cons columns; value = pos 1 } ∷ units (artificials cons columns) (length cons)) k
+    at_column : (k : ℕ) → coefficient top.entries k +ℤ total (in_column k)
+        (start_rows columns (artificials constraints columns) constraints)
+        ≡ coefficient (record { column = objective constraints columns; value = pos 1 } ∷ units (artificials constraints columns) (length constraints)) k
     at_column k =
-        elim (cases_lt k (artificials cons columns)) [
+        elim (cases_lt k (artificials constraints columns)) [
           | inl low ↦
               let sums = is_top.sums k low in
-              let before = units_before (artificials cons columns) (length cons) k low in
-              let other = other_column (objective cons columns) k (pos 1) (λ e. absurd (omega arith)) in
+              let before = units_before (artificials constraints columns) (length constraints) k low in
+              let other = other_column (objective constraints columns) k (pos 1) (λ e. absurd (omega arith)) in
               omega (arith, ints)
           | inr high ↦
-              let units = units_are columns columns (artificials cons columns) k cons below (omega arith) (omega arith) in
-              elim (cases_eq (objective cons columns) k) [
+              let units = units_are columns columns (artificials constraints columns) k constraints below (omega arith) (omega arith) in
+              elim (cases_eq (objective constraints columns) k) [
                 | inl is ↦
-                    let own = own_column (objective cons columns) k (pos 1) is in
+                    let own = own_column (objective constraints columns) k (pos 1) is in
                     let top_own = ap (coefficient top.entries) (sym is) ∙ is_top.own in
                     omega (arith, ints)
                 | inr differ ↦
-                    let other = other_column (objective cons columns) k (pos 1) differ in
+                    let other = other_column (objective constraints columns) k (pos 1) differ in
                     let none = is_top.others k (omega arith) (λ e. differ (sym e)) in
                     omega (arith, ints)
               ]
         ]
 
 -- a point of the first tableau with no negative artificial column has no positive objective's column
-pub objective_down : (cons : List Con) (columns : ℕ) (top : SparseRow) (m : ℤ) (x : ℕ → ℤ) → AreBelow columns cons →
-    IsTop (start_rows columns (artificials cons columns) cons) (artificials cons columns) (objective cons columns) top →
-    MeetsRows (first_rows cons columns top) m x → ((k : ℕ) → k ≢ objective cons columns → pos 0 ≤ℤ x k) → x (objective cons columns) ≤ℤ pos 0
-objective_down cons columns top m x below is_top meets up =
-    let is = objective_is cons columns top m x below is_top meets in
-    let units = units_up (artificials cons columns) (length cons) x (λ k low high. up k (λ e. absurd (omega arith))) in
+pub objective_down : (constraints : List Con) (columns : ℕ) (top : SparseRow) (m : ℤ) (x : ℕ → ℤ) →
+    AreBelow columns constraints →
+    IsTop (start_rows columns (artificials constraints columns) constraints) (artificials constraints columns) (objective constraints columns) top →
+    MeetsRows (first_rows constraints columns top) m x → ((k : ℕ) → k ≢ objective constraints columns → pos 0 ≤ℤ x k) →
+    x (objective constraints columns) ≤ℤ pos 0
+objective_down constraints columns top m x below is_top meets up =
+    let is = objective_is constraints columns top m x below is_top meets in
+    let units = units_up (artificials constraints columns) (length constraints) x (λ k low high. up k (λ e. absurd (omega arith))) in
     omega (arith, ints)
 
 -- ---- the basic point
@@ -230,12 +245,15 @@ pub record Located (t : Tableau) (j : ℕ) (w : ℤ) : Type 0 where
   pub up : pos 0 <ℤ m
   pub meets : MeetsRows t.rows m x
   pub signs : (k : ℕ) → k ≢ basic_at t 0 → pos 0 ≤ℤ x k
-  pub first : 0 < length t.rows → j ≢ basic_at t 0 → entry_at t 0 (basic_at t 0) *ℤ x (basic_at t 0) ≡ m *ℤ (constant_at t 0 -ℤ (entry_at t 0 j *ℤ w))
-  pub basics : w ≡ pos 0 → (i : ℕ) → i < length t.rows → entry_at t i (basic_at t i) *ℤ x (basic_at t i) ≡ m *ℤ constant_at t i
+  pub first : 0 < length t.rows → j ≢ basic_at t 0 → entry_at t 0 (basic_at t 0) *ℤ x (basic_at t 0) ≡
+      m *ℤ (constant_at t 0 -ℤ (entry_at t 0 j *ℤ w))
+  pub basics : w ≡ pos 0 → (i : ℕ) → i < length t.rows → entry_at t i (basic_at t i) *ℤ x (basic_at t i) ≡
+      m *ℤ constant_at t i
   pub others : w ≡ pos 0 → (k : ℕ) → ((i : ℕ) → i < length t.rows → basic_at t i ≢ k) → x k ≡ pos 0
 
 -- the basic columns differ
-pub basics_differ : (t : Tableau) (i h : ℕ) → IsBasic t → i < length t.rows → h < length t.rows → i ≢ h → basic_at t i ≢ basic_at t h
+pub basics_differ : (t : Tableau) (i h : ℕ) → IsBasic t → i < length t.rows → h < length t.rows → i ≢ h →
+    basic_at t i ≢ basic_at t h
 basics_differ t i h basic in_i in_h other same =
     let own = basic.own h in_h in
     let none = basic.apart i h in_i in_h (λ e. other (sym e)) in
@@ -255,7 +273,8 @@ unit_none j k w none =
 
 module _ (t : Tableau) (j : ℕ) (w : ℤ) (basic : IsBasic t) (up_w : pos 0 ≤ℤ w)
     (enough : (i : ℕ) → 0 < i → i < length t.rows → pos 0 ≤ℤ (constant_at t i -ℤ (entry_at t i j *ℤ w)))
-    (s : Scaled (length t.rows) (λ i. entry_at t i (basic_at t i)) (λ i. constant_at t i -ℤ (entry_at t i j *ℤ w))) where
+    (s : Scaled (length t.rows) (λ i. entry_at t i (basic_at t i))
+    (λ i. constant_at t i -ℤ (entry_at t i j *ℤ w))) where
   abbrev in_basics : ℕ → ℤ
   in_basics k = column_sum (length t.rows) (λ i. unit (basic_at t i) (s.q i) k)
 
@@ -275,7 +294,8 @@ module _ (t : Tableau) (j : ℕ) (w : ℤ) (basic : IsBasic t) (up_w : pos 0 ≤
       let first = side_unit es j (s.m *ℤ w) ∙ crossed s.m (entry_at t h j) w in
       let second = side_sum es (length t.rows) (λ i. unit (basic_at t i) (s.q i))
       ∙ sum_one (length t.rows) h (λ i. left_side es (unit (basic_at t i) (s.q i))) lt
-      (λ i below other. side_unit es (basic_at t i) (s.q i) ∙ ap (λ (z : ℤ). z *ℤ s.q i) (basic.apart i h below lt (λ e. other (sym e))) ∙ zero-*ℤ (s.q i))
+      (λ i below other. side_unit es (basic_at t i) (s.q i) ∙ ap (λ (z : ℤ). z *ℤ s.q i)
+      (basic.apart i h below lt (λ e. other (sym e))) ∙ zero-*ℤ (s.q i))
       ∙ side_unit es (basic_at t h) (s.q h) ∙ s.each h lt in
       let apart = times_difference s.m (constant_at t h) (entry_at t h j *ℤ w) in
       omega (arith, ints)
@@ -283,7 +303,8 @@ module _ (t : Tableau) (j : ℕ) (w : ℤ) (basic : IsBasic t) (up_w : pos 0 ≤
   q_up : (i : ℕ) → 0 < i → i < length t.rows → pos 0 ≤ℤ s.q i
   q_up i some lt =
       factor_up (entry_at t i (basic_at t i)) (s.q i) (basic.own i lt)
-      (subst (λ (z : ℤ). pos 0 ≤ℤ z) (sym (s.each i lt)) (times_up s.m (constant_at t i -ℤ (entry_at t i j *ℤ w)) (omega (arith, ints, s.up)) (enough i some lt)))
+      (subst (λ (z : ℤ). pos 0 ≤ℤ z) (sym (s.each i lt))
+      (times_up s.m (constant_at t i -ℤ (entry_at t i j *ℤ w)) (omega (arith, ints, s.up)) (enough i some lt)))
 
   in_basics_up : (k : ℕ) → k ≢ basic_at t 0 → pos 0 ≤ℤ in_basics k
   in_basics_up k other =

@@ -1,5 +1,6 @@
 -- Signs of products, and sums of numbers that are not negative.
-use Rattle.std.proofs.Common.{◌≡◌, ◌≢◌, ◌⊎◌, ℕ, zero, suc, ◌*◌, ◌<◌, inl, inr, sym, subst, arith, pos, negsuc, neg_ℤ, ℤ, ◌-ℤ◌, ◌*ℤ◌, ◌<ℤ◌, ◌≤ℤ◌}
+use Rattle.std.proofs.Common.{◌≡◌, ◌≢◌, ◌⊎◌, ℕ, zero, suc, ◌*◌, ◌<◌, inl, inr, sym, subst, arith, pos, negsuc, neg_ℤ, ℤ}
+use Rattle.std.proofs.Common.{◌-ℤ◌, ◌*ℤ◌, ◌<ℤ◌, ◌≤ℤ◌}
 use Rattle.std.proofs.lemmas.Int.{ints}
 use Rattle.std.proofs.Math.Nat.{le-mul_of_pos_right}
 use Rattle.xm_rows.specs.Lemmas.Integers.{times_negated, distrib}
@@ -70,7 +71,8 @@ sum_up (suc n) f h =
     omega (arith, ints)
 
 -- is 0 only where each is
-pub sum_gone : (n : ℕ) (f : ℕ → ℤ) → ((k : ℕ) → k < n → pos 0 ≤ℤ f k) → column_sum n f ≤ℤ pos 0 → (k : ℕ) → k < n → f k ≡ pos 0
+pub sum_gone : (n : ℕ) (f : ℕ → ℤ) → ((k : ℕ) → k < n → pos 0 ≤ℤ f k) → column_sum n f ≤ℤ pos 0 → (k : ℕ) → k < n →
+    f k ≡ pos 0
 sum_gone zero f h none k lt = absurd (omega arith)
 sum_gone (suc n) f h none k lt =
     let before = sum_up n f (λ i below. h i (omega arith)) in

@@ -1,5 +1,7 @@
 -- The first rows, as they are made.
-use Rattle.std.proofs.Common.{◌≡◌, ◌≢◌, ℕ, zero, suc, ◌+◌, ◌<◌, ◌≤◌, Bool, true, false, cond, List, [], ◌∷◌, ◌++◌, map, length, take, get_or, refl, sym, ◌∙◌, ap, ap₂, arith, inl, inr, ◌⊎◌, pos, negsuc, neg_ℤ, ℤ, unsigned_abs, All}
+use Rattle.std.proofs.Common.{◌≡◌, ◌≢◌, ℕ, zero, suc, ◌+◌, ◌<◌, ◌≤◌, Bool, true, false, cond, List, [], ◌∷◌, ◌++◌, map}
+use Rattle.std.proofs.Common.{length, take, get_or, refl, sym, ◌∙◌, ap, ap₂, arith, inl, inr, ◌⊎◌, pos, negsuc, neg_ℤ}
+use Rattle.std.proofs.Common.{ℤ, unsigned_abs, All}
 use Rattle.std.specs.Prelude.{int_lt}
 use Rattle.std.specs.Int.{is_negative}
 use Rattle.std.proofs.lemmas.Int.{ints}
@@ -25,11 +27,13 @@ pub turned_one : (b : Bool) (e : Entry) → turned b (e ∷ []) ≡ turned_entry
 turned_one true e = refl
 turned_one false e = refl
 
-pub turned_more : (b : Bool) (es : List Entry) (i : ℕ) (d : Entry) → i < length es → turned b (take (i + 1) es) ≡ turned b (take i es) ++ turned_entry b (get_or es i d) ∷ []
+pub turned_more : (b : Bool) (es : List Entry) (i : ℕ) (d : Entry) → i < length es → turned b (take (i + 1) es) ≡
+    turned b (take i es) ++ turned_entry b (get_or es i d) ∷ []
 turned_more b es i d lt =
     ap (turned b) (take_more es i d lt) ∙ turned_append b (take i es) (get_or es i d ∷ []) ∙ ap (λ (l : List Entry). turned b (take i es) ++ l) (turned_one b (get_or es i d))
 
-all_turned : (P Q : Entry → Type 0) (b : Bool) (es : List Entry) → ((e : Entry) → P e → Q (turned_entry b e)) → All P es → All Q (turned b es)
+all_turned : (P Q : Entry → Type 0) (b : Bool) (es : List Entry) → ((e : Entry) → P e → Q (turned_entry b e)) →
+    All P es → All Q (turned b es)
 all_turned P Q true [] step h = All-nil Q
 all_turned P Q true (e ∷ es) step h = All-cons Q (negated e) (map negated es) (step e (All-head P e es h)) (all_turned P Q true es step (All-tail P e es h))
 all_turned P Q false es step h = All-weaker P Q (λ e p. step e p) es h
@@ -51,7 +55,8 @@ signed_fits true (negsuc n) h = h
 signed_fits false z h = h
 
 -- the given entries and the slack
-part_rows : (s : ℕ) (equal : Bool) (es : List Entry) → IsRising es → All (λ e. e.value ≢ pos 0) es → All (λ e. Fits128 e.value) es → All (λ e. e.column < s) es →
+part_rows : (s : ℕ) (equal : Bool) (es : List Entry) → IsRising es → All (λ e. e.value ≢ pos 0) es →
+    All (λ e. Fits128 e.value) es → All (λ e. e.column < s) es →
     (IsRising (es ++ slack_entries equal s)) × (All (λ e. e.value ≢ pos 0) (es ++ slack_entries equal s)) × (All (λ e. Fits128 e.value) (es ++ slack_entries equal s)) × (All (λ e. e.column < cond equal 0 1 + s) (es ++ slack_entries equal s))
 part_rows s true es up some fit below = rw (append_none es) (up, some, fit, All-weaker (λ e. e.column < s) (λ e. e.column < 0 + s) (λ e lt. omega arith) es below)
   where
@@ -69,7 +74,8 @@ part_rows s false es up some fit below =
 size_fits : (z : ℤ) → Fits128 z → Fits128 (pos (unsigned_abs z))
 size_fits z h = h
 
-pub start_is_row : (s t : ℕ) (c : Con) → IsRow c.row → All (λ e. e.column < s) c.row.entries → cond c.equal 0 1 + s ≤ t → IsRow (start_row s t c)
+pub start_is_row : (s t : ℕ) (c : Con) → IsRow c.row → All (λ e. e.column < s) c.row.entries →
+    cond c.equal 0 1 + s ≤ t → IsRow (start_row s t c)
 start_is_row s t c row below order =
     let b = is_negative c.row.constant in
     let es = c.row.entries ++ slack_entries c.equal s in
@@ -84,8 +90,8 @@ start_is_row s t c row below order =
     }
 
 -- one constraint more
-pub rows_more : (s t i : ℕ) (cons : List Con) (d : Con) → i < length cons →
-    start_rows s t (take (i + 1) cons) ≡ start_rows s t (take i cons) ++ start_row (slack_count (take i cons) + s) (i + t) (get_or cons i d) ∷ []
+pub rows_more : (s t i : ℕ) (constraints : List Con) (d : Con) → i < length constraints →
+    start_rows s t (take (i + 1) constraints) ≡ start_rows s t (take i constraints) ++ start_row (slack_count (take i constraints) + s) (i + t) (get_or constraints i d) ∷ []
 rows_more s t i [] d lt = absurd (omega arith)
 rows_more s t zero (c ∷ cs) d lt = ap (λ (n : ℕ). start_row n t c ∷ []) (omega arith) ∙ ap (λ (n : ℕ). start_row (0 + s) n c ∷ []) (omega arith)
 rows_more s t (suc i) (c ∷ cs) d lt =
@@ -102,7 +108,8 @@ signed_size (pos n) = ap (λ (b : Bool). signed b (pos n)) (is_negative_up n)
 signed_size (negsuc n) = refl
 
 -- the entries as they were pushed are those of the row
-pub pushed_row : (s t : ℕ) (c : Con) (b : Bool) (given mid final : List Entry) (constant : ℤ) → b ≡ is_negative c.row.constant → given ≡ turned b c.row.entries →
+pub pushed_row : (s t : ℕ) (c : Con) (b : Bool) (given mid final : List Entry) (constant : ℤ) → b ≡
+    is_negative c.row.constant → given ≡ turned b c.row.entries →
     ((c.equal ≡ false) × (mid ≡ given ++ record { column = s; value = signed b (neg_ℤ (pos 1)) } ∷ [])) ⊎ ((c.equal ≡ true) × (mid ≡ given)) →
     final ≡ mid ++ record { column = t; value = pos 1 } ∷ [] → constant ≡ signed b c.row.constant →
     (record { entries = final; constant = constant }) ≡ start_row s t c
@@ -113,7 +120,9 @@ pushed_row s t c b given mid final constant is_b is_given either is_final is_con
     ∙ ap (λ (x : Bool). turned x (c.row.entries ++ slack_entries c.equal s) ++ own) is_b)
     (is_constant ∙ ap (λ (x : Bool). signed x c.row.constant) is_b ∙ signed_size c.row.constant)
   where
-    middle : ((c.equal ≡ false) × (mid ≡ given ++ record { column = s; value = signed b (neg_ℤ (pos 1)) } ∷ [])) ⊎ ((c.equal ≡ true) × (mid ≡ given)) →
+    middle : ((c.equal ≡ false) ×
+        (mid ≡ given ++ record { column = s; value = signed b (neg_ℤ (pos 1)) } ∷ [])) ⊎ ((c.equal ≡ true) ×
+        (mid ≡ given)) →
         mid ≡ turned b (c.row.entries ++ slack_entries c.equal s)
     middle (inl more) =
         more.1 ∙ ap (λ (l : List Entry). l ++ record { column = s; value = signed b (neg_ℤ (pos 1)) } ∷ []) is_given
@@ -127,12 +136,14 @@ pub turn_is : (z : ℤ) → int_lt z (pos 0) ≡ is_negative z
 turn_is (pos n) = refl
 turn_is (negsuc n) = refl
 
-pub rows_pushed : (s t i slack own : ℕ) (cons : List Con) (item : Con) (rows pushed : List SparseRow) (row : SparseRow) → pushed ≡ rows ++ row ∷ [] →
-    rows ≡ no_row ∷ start_rows s t (take i cons) → row ≡ start_row slack own item → slack ≡ slack_count (take i cons) + s → own ≡ i + t → item ≡ get_or cons i item →
-    i < length cons → pushed ≡ no_row ∷ start_rows s t (take (i + 1) cons)
-rows_pushed s t i slack own cons item rows pushed row is_pushed is_rows is_row is_slack is_own is_item lt =
+pub rows_pushed : (s t i slack own : ℕ) (constraints : List Con) (item : Con) (rows pushed : List SparseRow)
+    (row : SparseRow) → pushed ≡ rows ++ row ∷ [] →
+    rows ≡ no_row ∷ start_rows s t (take i constraints) → row ≡ start_row slack own item → slack ≡
+    slack_count (take i constraints) + s → own ≡ i + t → item ≡ get_or constraints i item →
+    i < length constraints → pushed ≡ no_row ∷ start_rows s t (take (i + 1) constraints)
+rows_pushed s t i slack own constraints item rows pushed row is_pushed is_rows is_row is_slack is_own is_item lt =
     is_pushed
     ∙ ap₂ (λ (l : List SparseRow) (r : SparseRow). l ++ r ∷ []) is_rows
-    (is_row ∙ ap (λ (n : ℕ). start_row n own item) is_slack ∙ ap (λ (n : ℕ). start_row (slack_count (take i cons) + s) n item) is_own
-    ∙ ap (start_row (slack_count (take i cons) + s) (i + t)) is_item)
-    ∙ ap (λ (l : List SparseRow). no_row ∷ l) (sym (rows_more s t i cons item lt))
+    (is_row ∙ ap (λ (n : ℕ). start_row n own item) is_slack ∙ ap (λ (n : ℕ). start_row (slack_count (take i constraints) + s) n item) is_own
+    ∙ ap (start_row (slack_count (take i constraints) + s) (i + t)) is_item)
+    ∙ ap (λ (l : List SparseRow). no_row ∷ l) (sym (rows_more s t i constraints item lt))

@@ -1,5 +1,6 @@
 -- The rows of the first tableau, column by column.
-use Rattle.std.proofs.Common.{◌≡◌, ◌≢◌, ℕ, zero, suc, ◌+◌, ◌<◌, ◌≤◌, Bool, true, false, cond, nat_eq, inl, inr, List, [], ◌∷◌, ◌++◌, map, length, refl, sym, ◌∙◌, ap, arith, pos, neg_ℤ, ℤ, ◌+ℤ◌, All}
+use Rattle.std.proofs.Common.{◌≡◌, ◌≢◌, ℕ, zero, suc, ◌+◌, ◌<◌, ◌≤◌, Bool, true, false, cond, nat_eq, inl, inr, List}
+use Rattle.std.proofs.Common.{[], ◌∷◌, ◌++◌, map, length, refl, sym, ◌∙◌, ap, arith, pos, neg_ℤ, ℤ, ◌+ℤ◌, All}
 use Rattle.std.specs.Int.{is_negative}
 use Rattle.std.proofs.lemmas.Bool.{cases_eq}
 use Rattle.std.proofs.lemmas.Int.{ints}
@@ -8,7 +9,8 @@ use Rattle.xm_rows.specs.declared.row.Entry.{Entry}
 use Rattle.xm_rows.specs.Row.{SparseRow, coefficient}
 use Rattle.xm_rows.specs.Lemmas.Entries.{own_column, other_column, coefficient-append, coefficient_absent}
 use Rattle.xm_lp.specs.declared.decision.Con.{Con}
-use Rattle.xm_lp.specs.Start.{AreBelow, row_at, slack_count, artificials, objective, negated, turned, signed, slack_entries, start_row, start_rows, in_column, constant_of, IsTop}
+use Rattle.xm_lp.specs.Start.{AreBelow, row_at, slack_count, artificials, objective, negated, turned, signed}
+use Rattle.xm_lp.specs.Start.{slack_entries, start_row, start_rows, in_column, constant_of, IsTop}
 use Rattle.xm_lp.proofs.Combined.{combined, combined_one, IsSum}
 
 choice_negated : (b : Bool) (v : ℤ) → cond b (neg_ℤ v) (pos 0) ≡ neg_ℤ (cond b v (pos 0))
@@ -36,7 +38,8 @@ start_coefficient s t k c =
     let first = coefficient_turned b es k ∙ ap (signed b) (coefficient-append c.row.entries (slack_entries c.equal s) k) in
     omega (arith, ints)
 
-pub given_above : (columns k : ℕ) (es : List Entry) → All (λ e. e.column < columns) es → columns ≤ k → coefficient es k ≡ pos 0
+pub given_above : (columns k : ℕ) (es : List Entry) → All (λ e. e.column < columns) es → columns ≤ k →
+    coefficient es k ≡ pos 0
 given_above columns k es below h = coefficient_absent es k (All-weaker (λ e. e.column < columns) (λ e. e.column ≢ k) (λ e lt is. absurd (omega arith)) es below)
 
 pub slack_elsewhere : (equal : Bool) (s k : ℕ) → s ≢ k → coefficient (slack_entries equal s) k ≡ pos 0
@@ -55,8 +58,9 @@ signed_none true z e = ap neg_ℤ e
 signed_none false z e = e
 
 -- beyond the slacks a start row has 1 in its artificial column and nothing else
-pub artificial_entries : (columns s t k i : ℕ) (cons : List Con) → AreBelow columns cons → columns ≤ s → s + slack_count cons ≤ k → i < length cons →
-    coefficient (row_at (start_rows s t cons) i).entries k ≡ cond (nat_eq (t + i) k) (pos 1) (pos 0)
+pub artificial_entries : (columns s t k i : ℕ) (constraints : List Con) → AreBelow columns constraints → columns ≤ s →
+    s + slack_count constraints ≤ k → i < length constraints →
+    coefficient (row_at (start_rows s t constraints) i).entries k ≡ cond (nat_eq (t + i) k) (pos 1) (pos 0)
 artificial_entries columns s t k i [] below over beyond lt = absurd (omega arith)
 artificial_entries columns s t k zero (c ∷ cs) below over beyond lt =
     let given = given_above columns k c.row.entries (All-head (λ c. All (λ e. e.column < columns) c.row.entries) c cs below) (omega arith) in
@@ -69,40 +73,42 @@ artificial_entries columns s t k (suc i) (c ∷ cs) below over beyond lt =
     artificial_entries columns (cond c.equal 0 1 + s) (suc t) k i cs (All-tail (λ c. All (λ e. e.column < columns) c.row.entries) c cs below) (omega arith) (omega arith) (omega arith)
     ∙ ap (λ (n : ℕ). cond (nat_eq n k) (pos 1) (pos 0)) (omega arith)
 
-pub start_count : (s t : ℕ) (cons : List Con) → length (start_rows s t cons) ≡ length cons
+pub start_count : (s t : ℕ) (constraints : List Con) → length (start_rows s t constraints) ≡ length constraints
 start_count s t [] = refl
 start_count s t (c ∷ cs) = let rest = start_count (cond c.equal 0 1 + s) (suc t) cs in omega (arith, rest)
 
 -- the own column of each row of the first tableau
 abbrev pub own_column_of : List Con → ℕ → ℕ → ℕ
-own_column_of cons columns zero = objective cons columns
-own_column_of cons columns (suc i) = artificials cons columns + i
+own_column_of constraints columns zero = objective constraints columns
+own_column_of constraints columns (suc i) = artificials constraints columns + i
 
 -- the rows of the first tableau
 abbrev pub first_rows : List Con → ℕ → SparseRow → List SparseRow
-first_rows cons columns top = top ∷ start_rows columns (artificials cons columns) cons
+first_rows constraints columns top = top ∷ start_rows columns (artificials constraints columns) constraints
 
-module _ (cons : List Con) (columns : ℕ) (top : SparseRow) (below : AreBelow columns cons)
-    (is_top : IsTop (start_rows columns (artificials cons columns) cons) (artificials cons columns) (objective cons columns) top) where
-  counted : length (start_rows columns (artificials cons columns) cons) ≡ length cons
-  counted = start_count columns (artificials cons columns) cons
+module _ (constraints : List Con) (columns : ℕ) (top : SparseRow) (below : AreBelow columns constraints)
+    (is_top : IsTop (start_rows columns (artificials constraints columns) constraints) (artificials constraints columns)
+    (objective constraints columns) top) where
+  counted : length (start_rows columns (artificials constraints columns) constraints) ≡ length constraints
+  counted = start_count columns (artificials constraints columns) constraints
 
   -- the entry of row i in the own column of row h
-  pub own_entries : (i h : ℕ) → i < suc (length cons) → h < suc (length cons) →
-      coefficient (row_at (first_rows cons columns top) i).entries (own_column_of cons columns h) ≡ cond (nat_eq i h) (pos 1) (pos 0)
+  pub own_entries : (i h : ℕ) → i < suc (length constraints) → h < suc (length constraints) →
+      coefficient (row_at (first_rows constraints columns top) i).entries (own_column_of constraints columns h) ≡ cond (nat_eq i h) (pos 1) (pos 0)
   own_entries zero zero in_i in_h = is_top.own
   own_entries zero (suc h) in_i in_h =
-      is_top.others (artificials cons columns + h) (omega arith) (λ e. absurd (omega arith))
+      is_top.others (artificials constraints columns + h) (omega arith) (λ e. absurd (omega arith))
       ∙ sym (other_column 0 (suc h) (pos 1) (λ e. absurd (omega arith)))
   own_entries (suc i) zero in_i in_h =
-      artificial_entries columns columns (artificials cons columns) (objective cons columns) i cons below (omega arith) (omega arith) (omega arith)
-      ∙ other_column (artificials cons columns + i) (objective cons columns) (pos 1) (λ e. absurd (omega arith))
+      artificial_entries columns columns (artificials constraints columns) (objective constraints columns) i constraints below (omega arith) (omega arith) (omega arith)
+      ∙ other_column (artificials constraints columns + i) (objective constraints columns) (pos 1) (λ e. absurd (omega arith))
       ∙ sym (other_column (suc i) 0 (pos 1) (λ e. absurd (omega arith)))
   own_entries (suc i) (suc h) in_i in_h =
-      artificial_entries columns columns (artificials cons columns) (artificials cons columns + h) i cons below (omega arith) (omega arith) (omega arith)
-      ∙ same_place (artificials cons columns) i h
+      artificial_entries columns columns (artificials constraints columns) (artificials constraints columns + h) i constraints below (omega arith) (omega arith) (omega arith)
+      ∙ same_place (artificials constraints columns) i h
     where
-      same_place : (t i h : ℕ) → cond (nat_eq (t + i) (t + h)) (pos 1) (pos 0) ≡ cond (nat_eq (suc i) (suc h)) (pos 1) (pos 0)
+      same_place : (t i h : ℕ) → cond (nat_eq (t + i) (t + h)) (pos 1) (pos 0) ≡ cond (nat_eq (suc i) (suc h)) (pos 1)
+          (pos 0)
       same_place t i h =
           elim (cases_eq i h) [
             | inl is ↦ own_column (t + i) (t + h) (pos 1) (omega arith) ∙ sym (own_column (suc i) (suc h) (pos 1) (omega arith))
@@ -110,14 +116,15 @@ module _ (cons : List Con) (columns : ℕ) (top : SparseRow) (below : AreBelow c
           ]
 
   -- each row of the first tableau is the sum that is that row alone
-  pub start_sum : (i : ℕ) → i < suc (length cons) → IsSum (first_rows cons columns top) (own_column_of cons columns) (row_at (first_rows cons columns top) i)
+  pub start_sum : (i : ℕ) → i < suc (length constraints) → IsSum (first_rows constraints columns top)
+      (own_column_of constraints columns) (row_at (first_rows constraints columns top) i)
   start_sum i lt = record { entries = λ k. sym (alone (in_column k)); constant = sym (alone constant_of) }
     where
       alone : (f : SparseRow → ℤ) →
-          combined f (λ h. coefficient (row_at (first_rows cons columns top) i).entries (own_column_of cons columns h)) (first_rows cons columns top)
-          ≡ f (row_at (first_rows cons columns top) i)
+          combined f (λ h. coefficient (row_at (first_rows constraints columns top) i).entries (own_column_of constraints columns h)) (first_rows constraints columns top)
+          ≡ f (row_at (first_rows constraints columns top) i)
       alone f =
           let count = counted in
-          combined_one f (λ h. coefficient (row_at (first_rows cons columns top) i).entries (own_column_of cons columns h)) (first_rows cons columns top) i (omega (arith, count))
+          combined_one f (λ h. coefficient (row_at (first_rows constraints columns top) i).entries (own_column_of constraints columns h)) (first_rows constraints columns top) i (omega (arith, count))
           (own_entries i i lt lt ∙ own_column i i (pos 1) refl)
           (λ h below other. own_entries i h lt (omega (arith, count)) ∙ other_column i h (pos 1) (λ e. other (sym e)))

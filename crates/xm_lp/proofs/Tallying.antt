@@ -1,5 +1,6 @@
 -- A row added to sums, entry by entry.
-use Rattle.std.proofs.Common.{◌≡◌, ◌≢◌, ℕ, zero, suc, ◌+◌, ◌<◌, ◌≤◌, cond, nat_eq, inl, inr, List, [], ◌∷◌, length, take, get_or, set, refl, sym, ◌∙◌, ap, subst, arith, pos, ℤ, ◌+ℤ◌, ◌*ℤ◌}
+use Rattle.std.proofs.Common.{◌≡◌, ◌≢◌, ℕ, zero, suc, ◌+◌, ◌<◌, ◌≤◌, cond, nat_eq, inl, inr, List, [], ◌∷◌, length}
+use Rattle.std.proofs.Common.{take, get_or, set, refl, sym, ◌∙◌, ap, subst, arith, pos, ℤ, ◌+ℤ◌, ◌*ℤ◌}
 use Rattle.std.proofs.lemmas.Bool.{cases_eq}
 use Rattle.std.proofs.lemmas.Int.{ints}
 use Rattle.std.proofs.lemmas.List.{get_or-set_same, get_or-set_other, length-set, take_all}
@@ -12,7 +13,8 @@ use Rattle.xm_lp.specs.Lemmas.Tally.{SumFits, AreAdded, AddingLeaves}
 use Rattle.xm_lp.proofs.Columns.{own_value}
 
 -- the entries before i have nothing in i's column
-before_none : (es : List Entry) (i : ℕ) (d : Entry) → i < length es → IsRising es → coefficient (take i es) (get_or es i d).column ≡ pos 0
+before_none : (es : List Entry) (i : ℕ) (d : Entry) → i < length es → IsRising es → coefficient (take i es)
+    (get_or es i d).column ≡ pos 0
 before_none [] i d lt up = absurd (omega arith)
 before_none (e ∷ es) zero d lt up = refl
 before_none (e ∷ es) (suc i) d lt up =
@@ -33,7 +35,8 @@ one_more (e ∷ es) (suc i) k d lt =
     step : (i : ℕ) → suc i + 1 ≡ suc (i + 1)
     step i = omega arith
 
-pub added_none : (old : List ℤ) (m : ℤ) (es : List Entry) → ((k : ℕ) → Fits128 (number_at old k)) → AreAdded old m (take 0 es) old
+pub added_none : (old : List ℤ) (m : ℤ) (es : List Entry) → ((k : ℕ) → Fits128 (number_at old k)) →
+    AreAdded old m (take 0 es) old
 added_none old m es fit =
     let none = *ℤ-zero m in
     record {
@@ -52,9 +55,11 @@ fits_as : (total total' m z z' : ℤ) → total ≡ total' → z ≡ z' → SumF
 fits_as total total' m z z' a b h = subst (λ (n : ℤ). SumFits n m z') a (subst (λ (n : ℤ). SumFits total m n) b h)
 
 -- an entry in a column that there is
-pub added_more : (old mid given : List ℤ) (m next : ℤ) (es : List Entry) (i : ℕ) (d : Entry) → AreAdded old m (take i es) mid → IsRising es → i < length es →
+pub added_more : (old mid given : List ℤ) (m next : ℤ) (es : List Entry) (i : ℕ) (d : Entry) →
+    AreAdded old m (take i es) mid → IsRising es → i < length es →
     (get_or es i d).column < length old → SumFits (number_at mid (get_or es i d).column) m (get_or es i d).value →
-    next ≡ (number_at mid (get_or es i d).column +ℤ (m *ℤ (get_or es i d).value)) → given ≡ set mid (get_or es i d).column next → AreAdded old m (take (i + 1) es) given
+    next ≡ (number_at mid (get_or es i d).column +ℤ (m *ℤ (get_or es i d).value)) → given ≡
+    set mid (get_or es i d).column next → AreAdded old m (take (i + 1) es) given
 added_more old mid given m next es i d a up lt in_old fits is set_is =
     let e = get_or es i d in
     let count = a.count in
@@ -97,7 +102,8 @@ added_more old mid given m next es i d a up lt in_old fits is set_is =
         omega (arith, ints)
 
 -- an entry in a column beyond
-pub added_passed : (old mid : List ℤ) (m : ℤ) (es : List Entry) (i : ℕ) (d : Entry) → AreAdded old m (take i es) mid → i < length es →
+pub added_passed : (old mid : List ℤ) (m : ℤ) (es : List Entry) (i : ℕ) (d : Entry) → AreAdded old m (take i es) mid →
+    i < length es →
     length old ≤ (get_or es i d).column → AreAdded old m (take (i + 1) es) mid
 added_passed old mid m es i d a lt beyond =
     record {
@@ -112,8 +118,10 @@ added_passed old mid m es i d a lt beyond =
         let none = other_column (get_or es i d).column k (get_or es i d).value (λ e. absurd (omega arith)) in
         omega (arith, ints)
 
-pub adding_leaves : (old mid : List ℤ) (m : ℤ) (es : List Entry) (i : ℕ) (d : Entry) → AreAdded old m (take i es) mid → IsRising es → i < length es →
-    (get_or es i d).column < length old → ¬ SumFits (number_at mid (get_or es i d).column) m (get_or es i d).value → AddingLeaves old m es
+pub adding_leaves : (old mid : List ℤ) (m : ℤ) (es : List Entry) (i : ℕ) (d : Entry) → AreAdded old m (take i es) mid →
+    IsRising es → i < length es →
+    (get_or es i d).column < length old → ¬ SumFits (number_at mid (get_or es i d).column) m (get_or es i d).value →
+    AddingLeaves old m es
 adding_leaves old mid m es i d a up lt in_old leaves =
     let k = (get_or es i d).column in
     let at = a.each k in_old in
@@ -121,5 +129,6 @@ adding_leaves old mid m es i d a up lt in_old leaves =
     let same : number_at old k ≡ number_at mid k = omega (arith, ints) in
     (k, in_old, λ fits. leaves (fits_as (number_at old k) (number_at mid k) m (coefficient es k) (get_or es i d).value same (own_value es i d lt up) fits))
 
-pub added_all : (old new : List ℤ) (m : ℤ) (es : List Entry) (i : ℕ) → AreAdded old m (take i es) new → length es ≤ i → AreAdded old m es new
+pub added_all : (old new : List ℤ) (m : ℤ) (es : List Entry) (i : ℕ) → AreAdded old m (take i es) new → length es ≤ i →
+    AreAdded old m es new
 added_all old new m es i a past = subst (λ (l : List Entry). AreAdded old m l new) (take_all i es past) a

@@ -1,6 +1,7 @@
 //! The answer of a tableau that needs no pivot.
 
-ghost use Rattle.std.specs.Prelude.{◌≡◌, ◌+◌, ◌-◌, ◌*◌, ◌^◌, ◌<◌, ◌≤◌, ◌<ℤ◌, ℕ, length, pos, IfOk, IfSome, IfNone, IsTrue, IsFalse};
+ghost use Rattle.std.specs.Prelude.{◌≡◌, ◌+◌, ◌-◌, ◌*◌, ◌^◌, ◌<◌, ◌≤◌, ◌<ℤ◌, ℕ, length, pos, IfOk, IfSome, IfNone};
+ghost use Rattle.std.specs.Prelude.{IsTrue, IsFalse};
 ghost use Rattle.std.specs.Int.{◌∣◌};
 ghost use Rattle.xm_rows.specs.Row.{Fits128};
 ghost use Rattle.xm_lp.specs.Answer.{IsDenominator, number_at};
@@ -23,51 +24,51 @@ use xm_rows::{Row, gcd, sum};
 /// The point, or the multipliers that refute the constraints.
 pub(crate) fn answer(
     alloc: Global,
-    cons: &[Con],
+    constraints: &[Con],
     columns: u32,
     first: u32,
     table: &Table,
     pivots: u64,
 ) -> Result<Decision, LpFault>
-    requires below { AreBelow columns cons.now }
-    requires few { columns + 2 * length cons.now < 2 ^ 32 - 1 }
-    requires first { first ≡ artificials cons.now columns }
-    requires after { After cons.now columns pivots (tableau_of table.now) }
+    requires below { AreBelow columns constraints.now }
+    requires few { columns + 2 * length constraints.now < 2 ^ 32 - 1 }
+    requires first { first ≡ artificials constraints.now columns }
+    requires after { After constraints.now columns pivots (tableau_of table.now) }
     requires last { IsLast (tableau_of table.now) first }
-    ensures { (left : ℕ) → pivots ≤ left → Follows cons.now columns left result }
+    ensures { (left : ℕ) → pivots ≤ left → Follows constraints.now columns left result }
 {
     if table.rows.as_slice()[0].constant() < 0 {
-        refutation(alloc, cons, columns, first, table, pivots)
+        refutation(alloc, constraints, columns, first, table, pivots)
     } else {
-        point(alloc, cons, columns, first, table, pivots)
+        point(alloc, constraints, columns, first, table, pivots)
     }
 }
 
 fn refutation(
     alloc: Global,
-    cons: &[Con],
+    constraints: &[Con],
     columns: u32,
     first: u32,
     table: &Table,
     pivots: u64,
 ) -> Result<Decision, LpFault>
-    requires below { AreBelow columns cons.now }
-    requires few { columns + 2 * length cons.now < 2 ^ 32 - 1 }
-    requires first { first ≡ artificials cons.now columns }
-    requires after { After cons.now columns pivots (tableau_of table.now) }
+    requires below { AreBelow columns constraints.now }
+    requires few { columns + 2 * length constraints.now < 2 ^ 32 - 1 }
+    requires first { first ≡ artificials constraints.now columns }
+    requires after { After constraints.now columns pivots (tableau_of table.now) }
     requires last { IsLast (tableau_of table.now) first }
     requires negative { constant_at (tableau_of table.now) 0 <ℤ pos 0 }
-    ensures { (left : ℕ) → pivots ≤ left → Follows cons.now columns left result }
+    ensures { (left : ℕ) → pivots ≤ left → Follows constraints.now columns left result }
 {
     let mut lows = dense(
         alloc,
         &table.rows.as_slice()[0],
-        first + cons.len() as u32 + 1,
+        first + constraints.len() as u32 + 1,
     )?;
-    let Some(multipliers) = multipliers(alloc, cons, first as usize, lows.as_slice())? else {
+    let Some(multipliers) = multipliers(alloc, constraints, first as usize, lows.as_slice())? else {
         return Err(LpFault::Overflow(pivots));
     };
-    if !stays_within(alloc, cons, columns, multipliers.as_slice())? {
+    if !stays_within(alloc, constraints, columns, multipliers.as_slice())? {
         return Err(LpFault::Overflow(pivots));
     }
     lows.truncate(columns);
@@ -92,19 +93,19 @@ fn dense(alloc: Global, row: &Row, width: u32) -> Result<List<i128>, OutOfMemory
 /// The multiplier of each constraint, or `None` where one leaves 128 bits.
 fn multipliers(
     alloc: Global,
-    cons: &[Con],
+    constraints: &[Con],
     first: usize,
     top: &[i128],
 ) -> Result<Option<List<i128>>, OutOfMemory>
-    requires count { length top.now ≡ first + length cons.now + 1 }
+    requires count { length top.now ≡ first + length constraints.now + 1 }
     requires few { length top.now < 2 ^ 32 }
     requires fit { (k : ℕ) → Fits128 (number_at top.now k) }
-    ensures some { IfOk result (λ found. IfSome found (λ m. AreDifferences cons.now top.now first m.items)) }
-    ensures none { IfOk result (λ found. IfNone found (DifferenceLeaves cons.now top.now first)) }
+    ensures some { IfOk result (λ found. IfSome found (λ m. AreDifferences constraints.now top.now first m.items)) }
+    ensures none { IfOk result (λ found. IfNone found (DifferenceLeaves constraints.now top.now first)) }
 {
     let mut multipliers = List::new(alloc);
-    for (i, con) in cons.iter().enumerate() {
-        let Some(value) = sum(top[first + cons.len()], -top[first + i]) else {
+    for (i, con) in constraints.iter().enumerate() {
+        let Some(value) = sum(top[first + constraints.len()], -top[first + i]) else {
             return Ok(None);
         };
         multipliers.push(signed(con.row.constant() < 0, value))?;
@@ -115,17 +116,17 @@ fn multipliers(
 /// Whether no product of a multiplier and no sum of the first products leaves 128 bits.
 fn stays_within(
     alloc: Global,
-    cons: &[Con],
+    constraints: &[Con],
     columns: u32,
     multipliers: &[i128],
 ) -> Result<bool, OutOfMemory>
-    requires { length multipliers.now ≡ length cons.now }
-    ensures within { IfOk result (λ yes. IsTrue yes → AllProductsFit cons.now columns multipliers.now) }
-    ensures leaves { IfOk result (λ yes. IsFalse yes → ¬ AllProductsFit cons.now columns multipliers.now) }
+    requires { length multipliers.now ≡ length constraints.now }
+    ensures within { IfOk result (λ yes. IsTrue yes → AllProductsFit constraints.now columns multipliers.now) }
+    ensures leaves { IfOk result (λ yes. IsFalse yes → ¬ AllProductsFit constraints.now columns multipliers.now) }
 {
     let mut sums = zeros(alloc, columns)?;
     let mut constant = 0;
-    for (i, con) in cons.iter().enumerate() {
+    for (i, con) in constraints.iter().enumerate() {
         let Some(total) = add_product(constant, multipliers[i], con.row.constant()) else {
             return Ok(false);
         };
@@ -139,18 +140,18 @@ fn stays_within(
 
 fn point(
     alloc: Global,
-    cons: &[Con],
+    constraints: &[Con],
     columns: u32,
     first: u32,
     table: &Table,
     pivots: u64,
 ) -> Result<Decision, LpFault>
-    requires below { AreBelow columns cons.now }
-    requires first { first ≡ artificials cons.now columns }
-    requires after { After cons.now columns pivots (tableau_of table.now) }
+    requires below { AreBelow columns constraints.now }
+    requires first { first ≡ artificials constraints.now columns }
+    requires after { After constraints.now columns pivots (tableau_of table.now) }
     requires last { IsLast (tableau_of table.now) first }
     requires zero { constant_at (tableau_of table.now) 0 ≡ pos 0 }
-    ensures { (left : ℕ) → pivots ≤ left → Follows cons.now columns left result }
+    ensures { (left : ℕ) → pivots ≤ left → Follows constraints.now columns left result }
 {
     let Some(denominator) = denominator(columns, table) else {
         return Err(LpFault::Overflow(pivots));
@@ -170,7 +171,8 @@ fn denominator(columns: u32, table: &Table) -> Option<u128>
     requires { HasPoint columns (tableau_of table.now) }
     ensures least { IfSome result (λ d. IsLeastOf columns (tableau_of table.now) (length table.now.rows.items) d) }
     ensures fits { IfSome result (λ d. d < 2 ^ 127) }
-    ensures none { IfNone result ((d : ℕ) → IsLeastOf columns (tableau_of table.now) (length table.now.rows.items) d → 2 ^ 127 ≤ d) }
+    ensures none { IfNone result ((d : ℕ) →
+        IsLeastOf columns (tableau_of table.now) (length table.now.rows.items) d → 2 ^ 127 ≤ d) }
 {
     let mut common: u128 = 1;
     for (i, row) in table.rows.as_slice().iter().enumerate() {
@@ -215,7 +217,8 @@ fn counts(
     requires point { HasPoint columns (tableau_of table.now) }
     requires some { 0 < denominator }
     requires whole { IsDenominator columns (tableau_of table.now) denominator }
-    ensures some { IfOk result (λ found. IfSome found (λ l. AreCountsOver columns (tableau_of table.now) denominator l.items)) }
+    ensures some { IfOk result (λ found. IfSome found (λ l.
+        AreCountsOver columns (tableau_of table.now) denominator l.items)) }
     ensures none { IfOk result (λ found. IfNone found (CountLeaves columns (tableau_of table.now) denominator)) }
 {
     let mut counts = zeros(alloc, columns)?;

@@ -13,4 +13,3 @@ mod tally;
 pub use decision::{Con, Decision, LpFault};
 pub use laws::{rule_is_exact, rule_is_right};
 pub use simplex::decide;
-

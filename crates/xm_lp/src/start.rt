@@ -1,6 +1,7 @@
 //! The first tableau.
 
-ghost use Rattle.std.specs.Prelude.{◌≡◌, ◌+◌, ◌-◌, ◌*◌, ◌^◌, ◌<◌, ◌≤◌, ◌∷◌, ℕ, suc, cond, length, pos, replicate, slice_index, All, IfOk, IfErr};
+ghost use Rattle.std.specs.Prelude.{◌≡◌, ◌+◌, ◌-◌, ◌*◌, ◌^◌, ◌<◌, ◌≤◌, ◌∷◌, ℕ, suc, cond, length, pos, replicate};
+ghost use Rattle.std.specs.Prelude.{slice_index, All, IfOk, IfErr};
 ghost use Rattle.xm_rows.specs.Row.{Fits128};
 ghost use Rattle.xm_lp.specs.Start.{AreBelow, IsStart, artificials, no_row, signed, start_row, start_rows};
 ghost use Rattle.xm_lp.specs.Answer.{number_at};
@@ -15,33 +16,38 @@ use xm_model::{List, OutOfMemory};
 use xm_rows::{Entry, Row, sum};
 
 /// The first tableau of the constraints.
-pub(crate) fn start(alloc: Global, cons: &[Con], columns: u32, first: u32) -> Result<Table, LpFault>
-    requires below { AreBelow columns cons.now }
-    requires few { columns + 2 * length cons.now < 2 ^ 32 - 1 }
-    requires first { first ≡ artificials cons.now columns }
-    ensures ok { IfOk result (λ t. IsStart cons.now columns (tableau_of t)) }
-    ensures err { IfErr result (λ fault. StartFails cons.now columns fault) }
+pub(crate) fn start(
+    alloc: Global,
+    constraints: &[Con],
+    columns: u32,
+    first: u32,
+) -> Result<Table, LpFault>
+    requires below { AreBelow columns constraints.now }
+    requires few { columns + 2 * length constraints.now < 2 ^ 32 - 1 }
+    requires first { first ≡ artificials constraints.now columns }
+    ensures ok { IfOk result (λ t. IsStart constraints.now columns (tableau_of t)) }
+    ensures err { IfErr result (λ fault. StartFails constraints.now columns fault) }
 {
-    let rows = start_rows(alloc, cons, columns, first)?;
+    let rows = start_rows(alloc, constraints, columns, first)?;
     let top = top_row(
         alloc,
         &rows.as_slice()[1..],
         first,
-        first + cons.len() as u32,
+        first + constraints.len() as u32,
     )?;
     let mut all = rows;
     all.as_mut_slice()[0] = top;
-    let basics = start_basics(alloc, first, cons.len() as u32)?;
+    let basics = start_basics(alloc, first, constraints.len() as u32)?;
     Ok(Table { rows: all, basics })
 }
 
 /// The first artificial column: a slack stands before it for each constraint that is no equation.
-pub(crate) fn first_artificial(cons: &[Con], columns: u32) -> u32
-    requires few { columns + 2 * length cons.now < 2 ^ 32 - 1 }
-    ensures { result ≡ artificials cons.now columns }
+pub(crate) fn first_artificial(constraints: &[Con], columns: u32) -> u32
+    requires few { columns + 2 * length constraints.now < 2 ^ 32 - 1 }
+    ensures { result ≡ artificials constraints.now columns }
 {
     let mut slacks = 0;
-    for con in cons {
+    for con in constraints {
         if !con.equal {
             slacks += 1;
         }
@@ -52,20 +58,20 @@ pub(crate) fn first_artificial(cons: &[Con], columns: u32) -> u32
 /// An empty row for the objective, and the row of each constraint.
 fn start_rows(
     alloc: Global,
-    cons: &[Con],
+    constraints: &[Con],
     columns: u32,
     first: u32,
 ) -> Result<List<Row>, OutOfMemory>
-    requires below { AreBelow columns cons.now }
-    requires few { columns + 2 * length cons.now < 2 ^ 32 - 1 }
-    requires first { first ≡ artificials cons.now columns }
-    ensures { IfOk result (λ rows. rows.items ≡ no_row ∷ start_rows columns first cons.now) }
+    requires below { AreBelow columns constraints.now }
+    requires few { columns + 2 * length constraints.now < 2 ^ 32 - 1 }
+    requires first { first ≡ artificials constraints.now columns }
+    ensures { IfOk result (λ rows. rows.items ≡ no_row ∷ start_rows columns first constraints.now) }
 {
     let mut rows = List::new(alloc);
     rows.push(Row::new(alloc, [].as_slice(), 0)?)?;
     let mut slack = columns;
     let mut own = first;
-    for con in cons {
+    for con in constraints {
         rows.push(start_row(alloc, con, slack, own)?)?;
         if !con.equal {
             slack += 1;

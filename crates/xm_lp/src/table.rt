@@ -1,6 +1,7 @@
 //! The tableau: its rows, row 0 being the objective's, and the basic column of each.
 
-ghost use Rattle.std.specs.Prelude.{◌≡◌, ◌≢◌, ◌<◌, ◌≤◌, ◌⊎◌, ℕ, Some, length, pos, ◌≤ℤ◌, IfSome, IfNone, IsTrue, IsFalse, IsErrOf, OnOk};
+ghost use Rattle.std.specs.Prelude.{◌≡◌, ◌≢◌, ◌<◌, ◌≤◌, ◌⊎◌, ℕ, Some, length, pos, ◌≤ℤ◌, IfSome, IfNone, IsTrue};
+ghost use Rattle.std.specs.Prelude.{IsFalse, IsErrOf, OnOk};
 ghost use Rattle.std.specs.Option.{ForSome};
 ghost use Rattle.xm_lp.specs.declared.table.Ratio.{Ratio};
 ghost use Rattle.xm_rows.specs.Row.{coefficient};
@@ -88,9 +89,11 @@ fn first_of(best: Option<Ratio>, ratio: Ratio) -> Ratio
 /// The row in which column `column` becomes basic.
 pub(crate) fn pivot_row(table: &Table, column: u32) -> Option<usize>
     requires count { length table.now.basics.items ≡ length table.now.rows.items }
-    requires constants { (i : ℕ) → 0 < i → i < length table.now.rows.items → pos 0 ≤ℤ constant_at (tableau_of table.now) i }
+    requires constants { (i : ℕ) → 0 < i → i < length table.now.rows.items →
+        pos 0 ≤ℤ constant_at (tableau_of table.now) i }
     ensures row { IfSome result (λ i. IsPivotRow (tableau_of table.now) column i) }
-    ensures none { IfNone result ((i : ℕ) → 0 < i → i < length table.now.rows.items → entry_at (tableau_of table.now) i column ≤ℤ pos 0) }
+    ensures none { IfNone result ((i : ℕ) → 0 < i → i < length table.now.rows.items →
+        entry_at (tableau_of table.now) i column ≤ℤ pos 0) }
 {
     let rows = table.rows.as_slice();
     let mut best: Option<Ratio> = None;

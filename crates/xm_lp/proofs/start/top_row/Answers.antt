@@ -1,4 +1,5 @@
-use Rattle.std.proofs.Common.{◌+◌, ◌∙◌, ap, refl, sym, subst, arith, rules, pos, ℤ, List, length, SFits, to_z, of_z, ◌+ℤ◌, ◌-ℤ◌}
+use Rattle.std.proofs.Common.{◌+◌, ◌∙◌, ap, refl, sym, subst, arith, rules, pos, ℤ, List, length, SFits, to_z, of_z}
+use Rattle.std.proofs.Common.{◌+ℤ◌, ◌-ℤ◌}
 use Rattle.std.specs.Int.{w128}
 use Rattle.std.proofs.lemmas.Int.{to_z-of_z}
 use Rattle.xm_model.specs.Lending.{refill-full}
@@ -19,7 +20,8 @@ returns-in_default-clause-err c =
     let constant = to_z w128 c.loop-row.constant-bits in (
       refl,
       constants_leave c.args.rows.now c.args.first c.loop-row.row-index c.loop-row.sums.items constant c.row-item.result c.loop-row.invariant c.loop-row-test.true c.row-item.is
-          (subst (λ (z : ℤ). ¬ Fits128 (constant +ℤ z)) (to_z-of_z w128 c.constant.result fits ∙ c.constant.ensures.value) c.in_default.ensures),
+          (subst (λ (z : ℤ). ¬ Fits128 (constant +ℤ z))
+          (to_z-of_z w128 c.constant.result fits ∙ c.constant.ensures.value) c.in_default.ensures),
     )
 
 pub returns-then-not-add_products-clause-err : goal.returns-then-not-add_products-clause-err
