@@ -1,0 +1,7 @@
+-- What private clauses cite, and no public one.
+pub mod Table
+pub mod Part
+pub mod Minus
+pub mod Refuted
+pub mod Multiple
+pub mod Denominator

@@ -1,0 +1,9 @@
+pub mod Start
+pub mod Pivot
+pub mod Answer
+pub mod Rule
+pub mod Right
+pub mod Same
+pub mod Laws
+pub mod Inner
+pub mod Lemmas
