@@ -10,7 +10,7 @@ use Rattle.xm_proof.specs.Valid.{IsProof}
 use Rattle.xm_proof.specs.declared.verdict.Verdict.{Verdict}
 use Rattle.xm_rows.specs.Row.{SparseRow}
 
--- a proof has one verdict: so Yes is said exactly of what is valid
+-- a proof has at most one verdict
 abbrev pub OneVerdict : Type 0
 OneVerdict =
     (it : Designed) (rows : List SparseRow) (p : Argument) (v w : Verdict) →

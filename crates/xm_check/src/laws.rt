@@ -2,7 +2,7 @@
 
 ghost use Rattle.xm_check.specs.Laws.{OneVerdict, ProofsHold};
 
-/// A proof has one verdict: so it is said to be valid exactly where it is.
+/// A proof has at most one verdict: one that is valid has no break.
 pub fn one_verdict()
     ensures { OneVerdict }
 {}
