@@ -4,5 +4,6 @@ mod commands;
 mod documents;
 mod helpers;
 mod inputs;
+mod lines;
 mod texts;
 mod words;
