@@ -1,4 +1,4 @@
-//! The tests of streams, nets, designs, tapes, cycles, runs, rows and invariants.
+//! The tests of streams, nets, designs, tapes, cycles, runs, rows, invariants and decisions.
 #![tactic(auto)]
 
 #[cfg(test)]

@@ -2,6 +2,7 @@
 
 mod colours;
 mod cycles;
+mod decisions;
 mod designs;
 mod flow_rows;
 mod invariants;
