@@ -1,6 +1,6 @@
 //! Reading a proof: its lemmas, and then its goals.
 
-ghost use Rattle.std.specs.Prelude.{◌≡◌, option_map};
+ghost use Rattle.std.specs.Prelude.{◌≡◌, All, IfOk, option_map, true};
 ghost use Rattle.serde_json.specs.View.{view};
 ghost use Rattle.xm_json.specs.Gives as paths;
 ghost use Rattle.xm_model.specs.Naming.{naming_of};
@@ -55,6 +55,7 @@ pub fn read_proof(
 ) -> Result<Proof, ProofFault>
     ensures exact { Gives argument_of result
         (spec.proof_in (known_of design.now (naming_of names.now)) (option_map (λ v. view v.now) value.entry)) }
+    ensures trees { IfOk result (λ p. All (λ g. spec.are_trees 1 g.steps ≡ true) (argument_of p).goals) }
 {
     let pairs = queue_pairs(alloc, design)?;
     let known = Known {
@@ -62,5 +63,6 @@ pub fn read_proof(
         names,
         pairs,
     };
-    Ok(proof_in(alloc, &known, value)?)
+    let proof = proof_in(alloc, &known, value)?;
+    Ok(proof)
 }
