@@ -5,5 +5,6 @@ mod documents;
 mod helpers;
 mod inputs;
 mod lines;
+mod proofs;
 mod texts;
 mod words;

@@ -1,0 +1,280 @@
+//! Proofs: the worked proof of a fork, two queues and a join is read, and broken ones tell their first break.
+
+use serde_json::Value;
+use std::alloc::Global;
+use xm_design::Design;
+use xm_model::Names;
+use xm_netlist::read_document;
+use xm_proof::Proof;
+use xm_proof_reader::{ProofFault, read_proof};
+
+/// A fork whose outputs meet again behind two queues. No queue gets the second colour.
+const DIAMOND: &str = r#"{"version":1,"colours":["req","ack"],"net":[
+    {"kind":"source","name":"S","out":"c0","colours":["req"]},
+    {"kind":"fork","name":"F","in":"c0","a":"c1","b":"c2"},
+    {"kind":"queue","name":"Qd","in":"c1","out":"c3","capacity":2},
+    {"kind":"queue","name":"Qt","in":"c2","out":"c4","capacity":2},
+    {"kind":"join","name":"J","a":"c3","b":"c4","out":"c5","pass":"a"},
+    {"kind":"sink","name":"K","in":"c5"}]}"#;
+
+/// A proof that no channel of it jams.
+const WORKED: &str = r#"{"lemmas":[
+    {"constant":"0","rows":[[0,"1"],[1,"-1"],[2,"-1"],[3,"1"],[5,"-1"]],"scale":"1","terms":[["Qd","req","1"],["Qt","req","-1"]]}],"goals":[
+    {"goal":["Dead","c5","req"],"tree":[{"kids":1,"on":["Dead","c5","req"],"rule":"P0"},
+    {"kids":0,"on":["Stuck","c5"],"rule":"S1"}]},
+    {"goal":["Dead","c3","req"],"tree":[{"kids":1,"on":["Dead","c3","req"],"rule":"O1"},
+    {"kids":2,"on":["Dead","c3","req"],"rule":"P4"},
+    {"kids":1,"on":["Idle","c4","req"],"rule":"I2"},
+    {"sum":[["lemma",0,"-1"],["path",["Has","Qd","req"],"1"],["path",["Lacks","Qt","req"],"1"]]},
+    {"cite":0}]},
+    {"goal":["Dead","c1","req"],"tree":[{"kids":1,"on":["Dead","c1","req"],"rule":"P0"},
+    {"kids":1,"on":["Stuck","c1"],"rule":"S2"},
+    {"cite":1}]},
+    {"goal":["Dead","c4","req"],"tree":[{"kids":1,"on":["Dead","c4","req"],"rule":"O1"},
+    {"kids":2,"on":["Dead","c4","req"],"rule":"P4"},
+    {"kids":1,"on":["Idle","c3","req"],"rule":"I2"},
+    {"sum":[["lemma",0,"1"],["path",["Has","Qt","req"],"1"],["path",["Lacks","Qd","req"],"1"]]},
+    {"cite":0}]},
+    {"goal":["Dead","c2","req"],"tree":[{"kids":1,"on":["Dead","c2","req"],"rule":"P0"},
+    {"kids":1,"on":["Stuck","c2"],"rule":"S2"},
+    {"cite":3}]},
+    {"goal":["Dead","c0","req"],"tree":[{"kids":1,"on":["Dead","c0","req"],"rule":"P0"},
+    {"kids":2,"on":["Stuck","c0"],"rule":"S4"},
+    {"kids":1,"on":["Stuck","c1"],"rule":"S2"},
+    {"cite":1},
+    {"kids":1,"on":["Stuck","c2"],"rule":"S2"},
+    {"cite":3}]}]}"#;
+
+/// Proofs of the diamond, and the path of the first break; `-` where there is none.
+const BREAKS: [(&str, &str); 39] = [
+    (r#"[]"#, "proof"),
+    (r#"{"goals":[]}"#, "proof.lemmas"),
+    (r#"{"goals":1,"lemmas":[1]}"#, "proof.lemmas.0"),
+    (r#"{"goals":[],"lemmas":[],"x":1}"#, "proof"),
+    (
+        r#"{"lemmas":[{"constant":"0","rows":[[0,"1"],[1,"-1"],[2,"-1"],[3,"1"],[5,"-1"]],"scale":"-0","terms":[["Qd","req","1"],["Qt","req","-1"]]}],"goals":[]}"#,
+        "proof.lemmas.0.scale",
+    ),
+    (
+        r#"{"lemmas":[{"constant":"0","rows":[[0,"1"],[1,"-1"],[2,"-1"],[3,"1"],[5,"-1"]],"scale":"01","terms":[["Qd","req","1"],["Qt","req","-1"]]}],"goals":[]}"#,
+        "proof.lemmas.0.scale",
+    ),
+    (
+        r#"{"lemmas":[{"constant":"0","rows":[[0,"1"],[1,"-1"],[2,"-1"],[3,"1"],[5,"-1"]],"scale":"+1","terms":[["Qd","req","1"],["Qt","req","-1"]]}],"goals":[]}"#,
+        "proof.lemmas.0.scale",
+    ),
+    (
+        r#"{"lemmas":[{"constant":"0","rows":[[0,"1"],[1,"-1"],[2,"-1"],[3,"1"],[5,"-1"]],"scale":1,"terms":[["Qd","req","1"],["Qt","req","-1"]]}],"goals":[]}"#,
+        "proof.lemmas.0.scale",
+    ),
+    (
+        r#"{"lemmas":[{"constant":"0","rows":[[0,"1"],[1,"-1"],[2,"-1"],[3,"1"],[5,"-1"]],"scale":"170141183460469231731687303715884105728","terms":[["Qd","req","1"],["Qt","req","-1"]]}],"goals":[]}"#,
+        "proof.lemmas.0.scale",
+    ),
+    (
+        r#"{"lemmas":[{"constant":"0","rows":[[0,"1"],[1,"-1"],[2,"-1"],[3,"1"],[5,"-1"]],"scale":"-170141183460469231731687303715884105728","terms":[["Qd","req","1"],["Qt","req","-1"]]}],"goals":[]}"#,
+        "proof.lemmas.0.scale",
+    ),
+    (
+        r#"{"lemmas":[{"constant":"0","rows":[[0,"1"],[1,"-1"],[2,"-1"],[3,"1"],[5,"-1"]],"scale":"-170141183460469231731687303715884105727","terms":[["Qd","req","1"],["Qt","req","-1"]]}],"goals":[]}"#,
+        "-",
+    ),
+    (
+        r#"{"lemmas":[{"constant":"0","rows":[[0,"1"],[0,"-1"],[2,"-1"],[3,"1"],[5,"-1"]],"scale":"1","terms":[["Qd","req","1"],["Qt","req","-1"]]}],"goals":[]}"#,
+        "proof.lemmas.0.rows.1",
+    ),
+    (
+        r#"{"lemmas":[{"constant":"0","rows":[[0,"1"],[4294967296,"-1"],[2,"-1"],[3,"1"],[5,"-1"]],"scale":"1","terms":[["Qd","req","1"],["Qt","req","-1"]]}],"goals":[]}"#,
+        "proof.lemmas.0.rows.1.0",
+    ),
+    (
+        r#"{"lemmas":[{"constant":"0","rows":[[0,"1"],[1],[2,"-1"],[3,"1"],[5,"-1"]],"scale":"1","terms":[["Qd","req","1"],["Qt","req","-1"]]}],"goals":[]}"#,
+        "proof.lemmas.0.rows.1",
+    ),
+    (
+        r#"{"lemmas":[{"constant":"0","rows":[[0,"1"],[1,"-1"],[2,"-1"],[3,"1"],[5,"-1"]],"scale":"1","terms":[["Qd","req","1"],["Qd","req","-1"]]}],"goals":[]}"#,
+        "proof.lemmas.0.terms.1",
+    ),
+    (
+        r#"{"lemmas":[{"constant":"0","rows":[[0,"1"],[1,"-1"],[2,"-1"],[3,"1"],[5,"-1"]],"scale":"1","terms":[["Qd","req","1"],["Qt","req","0"]]}],"goals":[]}"#,
+        "proof.lemmas.0.terms.1",
+    ),
+    (
+        r#"{"lemmas":[{"constant":"0","rows":[[0,"1"],[1,"-1"],[2,"-1"],[3,"1"],[5,"-1"]],"scale":"1","terms":[["Qd","req","1"],["F","req","1"]]}],"goals":[]}"#,
+        "proof.lemmas.0.terms.1.0",
+    ),
+    (
+        r#"{"lemmas":[{"constant":"0","rows":[[0,"1"],[1,"-1"],[2,"-1"],[3,"1"],[5,"-1"]],"scale":"1","terms":[["Qd","req","1"],["Qt","ack","1"]]}],"goals":[]}"#,
+        "proof.lemmas.0.terms.1.1",
+    ),
+    (
+        r#"{"lemmas":[{"constant":"0","rows":[[0,"1"],[1,"-1"],[2,"-1"],[3,"1"],[5,"-1"]],"scale":"1","terms":[["Qd","req","1"],["Qt","blue","1"]]}],"goals":[]}"#,
+        "proof.lemmas.0.terms.1.1",
+    ),
+    (
+        r#"{"lemmas":[],"goals":[{"goal":["Dead","c5","req"],"tree":[]}]}"#,
+        "proof.goals.0.tree",
+    ),
+    (
+        r#"{"lemmas":[],"goals":[{"goal":["Dead","c5","req"],"tree":[{"kids":4294967295,"on":["Dead","c5","req"],"rule":"P0"}]}]}"#,
+        "proof.goals.0.tree",
+    ),
+    (
+        r#"{"lemmas":[],"goals":[{"goal":["Dead","c5","req"],"tree":[{"kids":4294967296,"on":["Dead","c5","req"],"rule":"P0"}]}]}"#,
+        "proof.goals.0.tree.0.kids",
+    ),
+    (
+        r#"{"lemmas":[],"goals":[{"goal":["Dead","c5","req"],"tree":[{"open":true},{"open":true}],"x":1}]}"#,
+        "proof.goals.0.tree",
+    ),
+    (
+        r#"{"lemmas":[],"goals":[{"goal":["Dead","c5","req"],"tree":[{"open":true}],"x":1}]}"#,
+        "proof.goals.0",
+    ),
+    (
+        r#"{"lemmas":[],"goals":[{"goal":["Dead","c5","req"],"tree":[{"open":false}]}]}"#,
+        "proof.goals.0.tree.0.open",
+    ),
+    (
+        r#"{"lemmas":[],"goals":[{"goal":["Dead","c5","req"],"tree":[{"none":1}]}]}"#,
+        "proof.goals.0.tree.0",
+    ),
+    (
+        r#"{"lemmas":[],"goals":[{"goal":["Dead","c5","req"],"tree":[{"cite":0,"open":true}]}]}"#,
+        "proof.goals.0.tree.0",
+    ),
+    (
+        r#"{"lemmas":[],"goals":[{"goal":["Dead","c5","req"],"tree":[{"clash":[]}]}]}"#,
+        "proof.goals.0.tree.0.clash",
+    ),
+    (
+        r#"{"lemmas":[],"goals":[{"goal":["Dead","c5","req"],"tree":[{"clash":[["Full","c5"]]}]}]}"#,
+        "proof.goals.0.tree.0.clash.0.1",
+    ),
+    (
+        r#"{"lemmas":[],"goals":[{"goal":["Dead","c5","req"],"tree":[{"eager":"Qd"}]}]}"#,
+        "proof.goals.0.tree.0.eager",
+    ),
+    (
+        r#"{"lemmas":[],"goals":[{"goal":["Stuck","c5","req"],"tree":[{"open":true}]}]}"#,
+        "proof.goals.0.goal",
+    ),
+    (
+        r#"{"lemmas":[],"goals":[{"goal":[1,"c5"],"tree":[{"open":true}]}]}"#,
+        "proof.goals.0.goal",
+    ),
+    (
+        r#"{"lemmas":[],"goals":[{"goal":["Dead","c5","blue"],"tree":[{"open":true}]}]}"#,
+        "proof.goals.0.goal.2",
+    ),
+    (
+        r#"{"lemmas":[],"goals":[{"goal":["Dead","c5","req"],"tree":[{"sum":[["low","Qd","req"]]}]}]}"#,
+        "proof.goals.0.tree.0.sum.0",
+    ),
+    (
+        r#"{"lemmas":[],"goals":[{"goal":["Dead","c5","req"],"tree":[{"sum":[["low","Qd","req","1"],["cap","c0","1"]]}]}]}"#,
+        "proof.goals.0.tree.0.sum.1.1",
+    ),
+    (
+        r#"{"lemmas":[],"goals":[{"goal":["Dead","c5","req"],"tree":[{"kids":0,"on":["Stuck","c5"],"rule":"I1"}]}]}"#,
+        "proof.goals.0.tree.0.rule",
+    ),
+    (
+        r#"{"lemmas":[],"goals":[{"goal":["Dead","c5","req"],"tree":[{"kids":0,"on":["Stuck","c5"],"rule":"I4"}]}]}"#,
+        "proof.goals.0.tree.0.via",
+    ),
+    (
+        r#"{"lemmas":[],"goals":[{"goal":["Dead","c5","req"],"tree":[{"kids":0,"on":["Stuck","c5"],"rule":"S1","via":"req"}]}]}"#,
+        "proof.goals.0.tree.0",
+    ),
+    (
+        r#"{"lemmas":[],"goals":[{"goal":["Dead","c5","req"],"tree":[{"kids":0,"on":["Stuck","c5"],"rule":"I4","via":"req"}]}]}"#,
+        "-",
+    ),
+];
+
+fn is_answer(answer: &Result<Proof, ProofFault>, expected: &str) -> bool {
+    match answer {
+        Ok(_) => expected == "-",
+        Err(ProofFault::Form(path)) => path.as_bytes() == expected.as_bytes(),
+        Err(ProofFault::OutOfMemory) => false,
+    }
+}
+
+fn answers(alloc: Global, design: &Design, names: &Names, text: &str, expected: &str) -> bool {
+    let value = Value::from_slice(alloc, text.as_bytes());
+    value.is_ok_and(|value| {
+        is_answer(&read_proof(alloc, design, names, Some(&value)), expected)
+    })
+}
+
+fn all_answer(alloc: Global, design: &Design, names: &Names) -> bool {
+    BREAKS
+        .iter()
+        .all(|(text, path)| answers(alloc, design, names, text, path))
+}
+
+fn is_worked(alloc: Global, design: &Design, names: &Names) -> bool {
+    let value = Value::from_slice(alloc, WORKED.as_bytes());
+    value.is_ok_and(|value| { has_worked(&read_proof(alloc, design, names, Some(&value))) })
+}
+
+fn has_worked(answer: &Result<Proof, ProofFault>) -> bool {
+    match answer {
+        Ok(proof) => {
+            proof.lemmas.len() == 1
+                && proof.goals.len() == 6
+                && proof.goals.as_slice()[1].tree.len() == 5
+        }
+        Err(_) => false,
+    }
+}
+
+fn none_is_told(alloc: Global, design: &Design, names: &Names) -> bool {
+    is_answer(&read_proof(alloc, design, names, None), "proof")
+}
+
+fn is_worked_of_diamond(alloc: Global) -> bool {
+    match read_document(alloc, DIAMOND.as_bytes()) {
+        Ok(document) => match Design::new(alloc, document.net, &document.allow) {
+            Ok(design) => is_worked(alloc, &design, &document.names),
+            Err(_) => false,
+        },
+        Err(_) => false,
+    }
+}
+
+fn all_answer_of_diamond(alloc: Global) -> bool {
+    match read_document(alloc, DIAMOND.as_bytes()) {
+        Ok(document) => match Design::new(alloc, document.net, &document.allow) {
+            Ok(design) => all_answer(alloc, &design, &document.names),
+            Err(_) => false,
+        },
+        Err(_) => false,
+    }
+}
+
+fn none_is_told_of_diamond(alloc: Global) -> bool {
+    match read_document(alloc, DIAMOND.as_bytes()) {
+        Ok(document) => match Design::new(alloc, document.net, &document.allow) {
+            Ok(design) => none_is_told(alloc, &design, &document.names),
+            Err(_) => false,
+        },
+        Err(_) => false,
+    }
+}
+
+#[test]
+fn the_worked_proof_is_read(rt: HostRuntime) {
+    assert!(rt; is_worked_of_diamond(rt.alloc()));
+}
+
+#[test]
+fn the_first_break_is_told(rt: HostRuntime) {
+    assert!(rt; all_answer_of_diamond(rt.alloc()));
+}
+
+#[test]
+fn a_missing_proof_is_told(rt: HostRuntime) {
+    assert!(rt; none_is_told_of_diamond(rt.alloc()));
+}
