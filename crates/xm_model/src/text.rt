@@ -2,6 +2,7 @@
 
 ghost use Rattle.std.specs.Prelude.{◌≡◌, ◌+◌, ◌≤◌, [], ◌++◌, length, IfOk, IsOk, OnOk, OnErr};
 ghost use Rattle.std.specs.Fmt.{signed_decimal};
+ghost use Rattle.std.specs.Vec.{vec_capacity};
 
 use crate::memory::OutOfMemory;
 use std::alloc::Global;
@@ -54,26 +55,40 @@ impl Text {
         self.bytes.as_slice()
     }
 
-    /// Appends the bytes. Within the room it succeeds. On refusal the text and its room stay.
+    /// Appends the bytes. Within the room it succeeds and takes no memory. On refusal the text and its room stay.
     pub fn push_bytes(&mut self, bytes: &[u8]) -> Result<(), OutOfMemory>
         ensures ok { OnOk result (self.new.items ≡ self.old.items ++ bytes.now) }
         ensures err { OnErr result (self.new ≡ self.old) }
         ensures grows { self.old.room ≤ self.new.room }
-        ensures within { length self.old.items + length bytes.now ≤ self.old.room → IsOk result }
+        ensures within { length self.old.items + length bytes.now ≤ self.old.room → IsOk result × (self.new.room ≡ self.old.room) }
     {
-        self.bytes.reserve(bytes.len())?;
-        self.bytes.extend_from_slice(bytes)?;
+        if bytes.len() > self.bytes.capacity() - self.bytes.len() {
+            self.bytes.reserve(bytes.len())?;
+        }
+        append_within(&mut self.bytes, bytes);
         Ok(())
     }
 
-    /// Appends the decimal text of `v`: digits without leading zeros, and `-` first where `v` is
-    /// negative. On refusal the text and its room stay.
+    /// Appends the decimal text of `number`: digits without leading zeros, and `-` first where it is
+    /// negative. On refusal the text and its room stay; within the room its own room stays.
     pub fn push_number(&mut self, number: i128) -> Result<(), OutOfMemory>
         ensures ok { OnOk result (self.new.items ≡ self.old.items ++ signed_decimal number) }
         ensures err { OnErr result (self.new ≡ self.old) }
         ensures grows { self.old.room ≤ self.new.room }
+        ensures within { length self.old.items + length (signed_decimal number) ≤ self.old.room → self.new.room ≡ self.old.room }
     {
         let digits = number.to_string(*self.bytes.allocator())?;
         self.push_bytes(digits.as_bytes())
+    }
+}
+
+/// Appends the bytes, for which there is room. The room stays.
+fn append_within(held: &mut Vec<u8>, bytes: &[u8])
+    requires { length held.old.items + length bytes.now ≤ vec_capacity held.old }
+    ensures items { held.new.items ≡ held.old.items ++ bytes.now }
+    ensures room { vec_capacity held.new ≡ vec_capacity held.old }
+{
+    for &byte in bytes {
+        held.push_reserved(byte);
     }
 }
