@@ -2,4 +2,5 @@ pub mod Texts
 pub mod After
 pub mod Rows
 pub mod Counting
+pub mod Pairs
 pub mod Whole
