@@ -5,6 +5,7 @@ use Rattle.std.proofs.lemmas.List.Elements.{All-head, All-tail, All-cons, All-ni
 use Rattle.xm_colours.specs.Family.{Rises}
 use Rattle.xm_model.specs.Membership.{IsIn}
 use Rattle.xm_elim.specs.Elimination.{IsCandidate, IsPivot, IsTaken}
+use Rattle.xm_rows.specs.Lemmas.Noting.{in_left}
 use Rattle.xm_elim.specs.Inner.Columns.{AreTakenOf, IsRisingOf}
 use Rattle.xm_elim.specs.Inner.Places.{ArePlaces, IsBest, IsBestAt}
 use Rattle.xm_elim.specs.declared.work.Status.TheVariants.{Gone, Waiting}
@@ -21,11 +22,6 @@ in_push [] y j (inl is) = inr is
 in_push [] y j (inr none) = absurd none
 in_push (x ∷ xs) y j (inl is) = inl (inl is)
 in_push (x ∷ xs) y j (inr h) = elim (in_push xs y j h) [ inl early ↦ inl (inr early) | inr last ↦ inr last ]
-
-pub in_left : (xs ys : List ℕ) (j : ℕ) → IsIn xs j → IsIn (xs ++ ys) j
-in_left [] ys j h = absurd h
-in_left (x ∷ xs) ys j (inl is) = inl is
-in_left (x ∷ xs) ys j (inr h) = inr (in_left xs ys j h)
 
 pub in_last : (xs : List ℕ) (y : ℕ) → IsIn (xs ++ y ∷ []) y
 in_last [] y = inl refl

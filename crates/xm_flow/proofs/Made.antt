@@ -9,7 +9,7 @@ use Rattle.xm_flow.specs.Inner.Testing.{AreWeighed, IsMet, IsScaled, scaled_at}
 use Rattle.xm_flow.specs.ValidLemma.{IsValid, Lemma, flow_at, weighed}
 use Rattle.xm_flow.specs.declared.invariant.Part.{Part}
 use Rattle.xm_flow.specs.declared.testing.Slot.{Slot}
-use Rattle.xm_rows.specs.Lemmas.Entries.{first_coefficient, later_coefficient, rising_tail}
+use Rattle.xm_rows.specs.Lemmas.Entries.{column_or_none, first_coefficient, later_coefficient, rising_tail}
 use Rattle.xm_rows.specs.Row.{Fits128, IsRising, SparseRow, coefficient}
 use Rattle.xm_rows.specs.declared.row.Entry.{Entry}
 
@@ -30,22 +30,12 @@ scaled_fits it k up is = fits_at it.scale it.row.entries k up is.entries
 
 -- ---- a column is met, or nothing touches it
 
-entries_met_or_none : (M : ℕ → Type 0) (es : List Entry) (k : ℕ) → All (λ e. M e.column) es → M k ⊎ (coefficient es k ≡ pos 0)
-entries_met_or_none M [] k all = inr refl
-entries_met_or_none M (e ∷ es) k all =
-    let P : Entry → Type 0 = λ f. M f.column in
-    elim (cases_eq e.column k) [
-      | inl same ↦ inl (subst M same (All-head P e es all))
-      | inr other ↦
-          elim (entries_met_or_none M es k (All-tail P e es all)) [ inl met ↦ inl met | inr none ↦ inr (later_coefficient e es k other ∙ none) ]
-    ]
-
 met_or_none : (M : ℕ → Type 0) (flow : List SparseRow) (ps : List Part) (k : ℕ) →
     All (λ p. All (λ e. M e.column) (flow_at flow p.flow).entries) ps → M k ⊎ (weighed flow ps k ≡ pos 0)
 met_or_none M flow [] k all = inr refl
 met_or_none M flow (p ∷ ps) k all =
     let P : Part → Type 0 = λ q. All (λ (e : Entry). M e.column) (flow_at flow q.flow).entries in
-    elim (entries_met_or_none M (flow_at flow p.flow).entries k (All-head P p ps all)) [
+    elim (column_or_none M (flow_at flow p.flow).entries k (All-head P p ps all)) [
       | inl met ↦ inl met
       | inr none ↦
           elim (met_or_none M flow ps k (All-tail P p ps all)) [
@@ -83,7 +73,7 @@ module _ (n moves counts : ℕ) (flow : List SparseRow) (it : Lemma) (slots : Li
         within = within;
         no_moves = λ k low. elim (touched k parts_met) [ inl met ↦ sym (w.sums k) ∙ met ∙ scaled_move k low | inr none ↦ none ];
         counts_same = λ k low.
-            elim (entries_met_or_none (λ c. IsMet n moves it slots (moves + c)) it.row.entries k row_met) [
+            elim (column_or_none (λ c. IsMet n moves it slots (moves + c)) it.row.entries k row_met) [
               | inl met ↦ sym (w.sums (moves + k)) ∙ met ∙ scaled_count k
               | inr none ↦
                   elim (touched (moves + k) parts_met) [

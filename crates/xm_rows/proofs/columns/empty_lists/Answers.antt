@@ -2,7 +2,7 @@ use Rattle.std.proofs.Common.{◌≡◌, ℕ, [], length, All, subst, sym, ap, a
 use Rattle.std.proofs.lemmas.List.Elements.{All-nil, All-push}
 use Rattle.std.proofs.lemmas.List.{length_push}
 use Rattle.xm_model.specs.ListView.{ListView}
-use Rattle.xm_elim.proofs.columns.empty_lists.Goals as goal
+use Rattle.xm_rows.proofs.columns.empty_lists.Goals as goal
 
 pub loop-init : goal.loop-init
 loop-init c =

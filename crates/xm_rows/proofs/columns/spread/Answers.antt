@@ -1,6 +1,6 @@
-use Rattle.xm_elim.specs.Inner.Columns.{columns_of}
-use Rattle.xm_elim.proofs.Covering.{spread_all, spread_next, spread_none}
-use Rattle.xm_elim.proofs.columns.spread.Goals as goal
+use Rattle.xm_rows.specs.Columns.{columns_of}
+use Rattle.xm_rows.specs.Lemmas.Noting.{spread_all, spread_next, spread_none}
+use Rattle.xm_rows.proofs.columns.spread.Goals as goal
 
 pub loop-entry-init : goal.loop-entry-init
 loop-entry-init c = spread_none c.args.places.now (columns_of c.args.columns.now)

@@ -1,7 +1,7 @@
 use Rattle.std.proofs.Common.{ℕ, ◌∙◌, ◌++◌, ap, sym}
 use Rattle.xm_model.specs.ListView.{ListView}
-use Rattle.xm_elim.proofs.Covering.{noted_list, noted_none_list}
-use Rattle.xm_elim.proofs.columns.note.Goals as goal
+use Rattle.xm_rows.specs.Lemmas.Noting.{noted_list, noted_none_list}
+use Rattle.xm_rows.proofs.columns.note.Goals as goal
 
 pub returns-then-entry-columns : goal.returns-then-entry-columns
 returns-then-entry-columns c = noted_none_list c.args.places.now c.args.entry c.args.columns.now c.if-entry-columns.true
