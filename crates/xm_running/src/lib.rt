@@ -5,6 +5,6 @@ mod has_cell;
 mod ring;
 mod slot;
 
-pub use has_cell::{ChangesCell, HasCell};
+pub use has_cell::{ChangesCell, HasCell, advance_queue};
 pub use ring::Ring;
 pub use slot::{Running, Slot};
