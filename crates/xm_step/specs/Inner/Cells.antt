@@ -5,7 +5,9 @@ use Rattle.xm_model.specs.Next.{content_after, reset_content}
 use Rattle.xm_model.specs.Signals.{Signals}
 use Rattle.xm_model.specs.declared.state.Cell.{Cell}
 use Rattle.xm_model.specs.declared.state.Cell.TheVariants as cell
+use Rattle.xm_step.specs.Inner.Kinds.{IsHoldingOf}
 use Rattle.xm_step.specs.Roomy.{IsRoomyCell, cell_at, room_in}
+use Rattle.xm_step.specs.declared.kinds.Holding.{Holding}
 
 -- a queue with no free place is not ready
 abbrev pub IsGuarded : Component → Cell → Signals → Type 0
@@ -25,6 +27,10 @@ pub record IsAdvanced (m : Component) (old new : Cell) (φ : Signals) : Type 0 w
 abbrev pub CanAdvance : ℕ → ℕ → ℕ → Cell → Signals → Type 0
 CanAdvance input out capacity x φ =
     IsRoomyCell (Queue input out capacity []) x × IsGuarded (Queue input out capacity []) x φ
+
+-- this is what the primitive holds, and its cell can go on in this cycle
+abbrev pub CanGoOn : Holding → Component → Cell → Signals → Type 0
+CanGoOn h m x φ = IsHoldingOf h m × (IsRoomyCell m x × IsGuarded m x φ)
 
 -- the cells of some primitives went on, and all others are as they were
 pub record HaveGone (ms : List Component) (old new : List Cell) (φ : Signals) (Gone : ℕ → Type 0) : Type 0 where
