@@ -7,7 +7,8 @@ use Rattle.xm_model.specs.Component.{Component, Queue}
 use Rattle.xm_model.specs.Signals.{Signals}
 use Rattle.xm_model.specs.declared.state.Cell.{Cell}
 use Rattle.xm_model.specs.declared.state.Cell.TheVariants as cell
-use Rattle.xm_step.specs.Inner.Cells.{AllAdvance, CanAdvance, HaveGone, IsAdvanced, IsGuarded, IsGuardedBy}
+use Rattle.xm_step.specs.Advanced.{IsAdvanced, IsGuarded}
+use Rattle.xm_step.specs.Inner.Cells.{AllAdvance, CanAdvance, HaveGone, IsGuardedBy}
 use Rattle.xm_step.specs.Inner.Kinds.{AreKindsTo, IsAmongBoth, IsAmongQueues, IsQueueAt}
 use Rattle.xm_step.specs.Roomy.{IsRoomy, IsRoomyCell, cell_at}
 use Rattle.xm_step.specs.declared.kinds.QueuePlace.{QueuePlace}

@@ -1,6 +1,6 @@
 use Rattle.xm_model.specs.Views.{signals_of}
 use Rattle.xm_step.proofs.Going.{can_from}
-use Rattle.xm_step.proofs.advance.advance.Goals as goal
+use Rattle.xm_step.proofs.advance.advance_cell.Goals as goal
 
 pub returns-in-Queue : goal.returns-in-Queue
 returns-in-Queue c =
