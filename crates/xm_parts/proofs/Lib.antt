@@ -14,6 +14,7 @@ pub mod Projecting
 pub mod Pushing
 pub mod Renaming
 pub mod Scheduling
+pub mod Sharing
 pub mod Solving
 pub mod Splitting
 pub mod Stepping

@@ -1,6 +1,7 @@
 //! Partitions of a net, what a part has of a state and a frame, and the step of one part.
 #![tactic(auto)]
 
+mod balanced;
 mod build;
 mod fault;
 mod given;
