@@ -1,10 +1,12 @@
 -- The cells of the queues, and then those of the other primitives, past a cycle.
-use Rattle.std.proofs.Common.{◌≡◌, ℕ, ◌+◌, ◌<◌, ◌≤◌, List, Some, length, set, get_or, slice_get, refl, sym, ap, ◌∙◌, subst, inl, inr, arith}
-use Rattle.std.proofs.lemmas.Bool.{cases_lt}
+use Rattle.std.proofs.Common.{◌≡◌, ℕ, ◌+◌, ◌<◌, ◌≤◌, Bool, true, false, nat_lt, List, [], ◌∷◌, Option, Some, None, drop, length, set, get_or, slice_get, refl, sym, ap, ap₂, ◌∙◌, subst, inl, inr, arith, length-append, length-drop}
+use Rattle.std.specs.Option.{option_to_list}
+use Rattle.std.proofs.lemmas.Bool.{cases_lt, ltb-true}
 use Rattle.std.proofs.lemmas.List.{get_or_default}
 use Rattle.std.proofs.lemmas.Option.{slice_get_within}
 use Rattle.xm_model.specs.Component.{Component, Queue}
-use Rattle.xm_model.specs.Signals.{Signals}
+use Rattle.xm_model.specs.Next.{joined, left, move}
+use Rattle.xm_model.specs.Signals.{Signals, only_if}
 use Rattle.xm_model.specs.declared.state.Cell.{Cell}
 use Rattle.xm_model.specs.declared.state.Cell.TheVariants as cell
 use Rattle.xm_step.specs.Advanced.{IsAdvanced, IsGuarded}
@@ -12,6 +14,7 @@ use Rattle.xm_step.specs.Inner.Cells.{AllAdvance, CanAdvance, HaveGone, IsGuarde
 use Rattle.xm_step.specs.Inner.Kinds.{AreKindsTo, IsAmongBoth, IsAmongQueues, IsQueueAt}
 use Rattle.xm_step.specs.Roomy.{IsRoomy, IsRoomyCell, cell_at}
 use Rattle.xm_step.specs.declared.kinds.QueuePlace.{QueuePlace}
+use Rattle.xm_running.specs.Passing.{HasRoom, passed}
 use Rattle.xm_step.proofs.Advancing.{gone_more}
 
 pub can_from : (input out capacity : ℕ) (initial : List ℕ) (x : Cell) (φ : Signals) → IsRoomyCell (Queue input out capacity initial) x → IsGuarded (Queue input out capacity initial) x φ → CanAdvance input out capacity x φ
@@ -20,6 +23,60 @@ can_from input out capacity initial (cell.Pending d) φ roomy guarded = absurd r
 can_from input out capacity initial (cell.Held h) φ roomy guarded = absurd roomy
 can_from input out capacity initial (cell.Pref s) φ roomy guarded = absurd roomy
 can_from input out capacity initial cell.Nothing φ roomy guarded = absurd roomy
+
+joined_length : (ps : List ℕ) (leaves comes : Option ℕ) → length (joined (left ps leaves) comes) ≤ length ps + length (option_to_list comes)
+joined_length ps None None = omega arith
+joined_length ps None (Some d) = omega (arith, length-append ps (d ∷ []))
+joined_length ps (Some e) None = omega (arith, length-drop 1 ps)
+joined_length ps (Some e) (Some d) = omega (arith, length-drop 1 ps, length-append (drop 1 ps) (d ∷ []))
+
+-- what comes into a queue that keeps its capacity has room
+comes_within : (n capacity input : ℕ) (φ : Signals) → n ≤ capacity → φ.ready input ≡ nat_lt n capacity → n + length (option_to_list (move φ input)) ≤ capacity
+comes_within n capacity input φ within guarded = by_move (φ.ready input) (φ.offer input) guarded where
+  by_move : (r : Bool) (o : Option ℕ) → r ≡ nat_lt n capacity → n + length (option_to_list (only_if r o)) ≤ capacity
+  by_move false o e = omega arith
+  by_move true None e = omega arith
+  by_move true (Some d) e = let less = ltb-true n capacity (sym e) in omega arith
+
+pub pass_has_room : (input out capacity : ℕ) (x : Cell) (φ : Signals) (comes : Option ℕ) → comes ≡ move φ input → CanAdvance input out capacity x φ → HasRoom x comes
+pass_has_room input out capacity (cell.Packets q) φ comes is can =
+    let h = comes_within (length q.items) capacity input φ can.0.0 can.1 in
+    let room = can.0.1 in
+    subst (λ (o : Option ℕ). length q.items + length (option_to_list o) ≤ q.room) (sym is) (omega arith)
+pass_has_room input out capacity (cell.Pending d) φ comes is can = tt
+pass_has_room input out capacity (cell.Held h) φ comes is can = tt
+pass_has_room input out capacity (cell.Pref s) φ comes is can = tt
+pass_has_room input out capacity cell.Nothing φ comes is can = tt
+
+went_from : (input out capacity : ℕ) (initial : List ℕ) (x : Cell) (φ : Signals) → CanAdvance input out capacity x φ → IsAdvanced (Queue input out capacity initial) x (passed x (move φ out) (move φ input)) φ
+went_from input out capacity initial (cell.Packets q) φ can = record {
+  content = refl;
+  roomy = (
+    (let h = comes_within (length q.items) capacity input φ can.0.0 can.1 in
+    let j = joined_length q.items (move φ out) (move φ input) in
+    omega arith),
+    can.0.1,
+  );
+  room = refl;
+}
+went_from input out capacity initial (cell.Pending d) φ can = absurd can.0
+went_from input out capacity initial (cell.Held h) φ can = absurd can.0
+went_from input out capacity initial (cell.Pref s) φ can = absurd can.0
+went_from input out capacity initial cell.Nothing φ can = absurd can.0
+
+pub pass_went : (input out capacity : ℕ) (initial : List ℕ) (x y : Cell) (φ : Signals) (leaves comes : Option ℕ) → leaves ≡ move φ out → comes ≡ move φ input → y ≡ passed x leaves comes → CanAdvance input out capacity x φ →
+    IsAdvanced (Queue input out capacity initial) x y φ
+pass_went input out capacity initial x y φ leaves comes leaves_is comes_is went can =
+    let end : passed x (move φ out) (move φ input) ≡ y = sym (went ∙ ap₂ (passed x) leaves_is comes_is) in
+    subst (λ (z : Cell). IsAdvanced (Queue input out capacity initial) x z φ) end (went_from input out capacity initial x φ can)
+
+-- where nothing passes, the cell stays
+pub none_passed : (x : Cell) → passed x None None ≡ x
+none_passed (cell.Packets q) = refl
+none_passed (cell.Pending d) = refl
+none_passed (cell.Held h) = refl
+none_passed (cell.Pref s) = refl
+none_passed cell.Nothing = refl
 
 module _ (ms : List Component) (old : List Cell) (φ : Signals) (queues : List QueuePlace) (others : List ℕ) (n : ℕ) (kinds : AreKindsTo ms n queues others) (roomy : IsRoomy ms old) (guarded : IsGuardedBy ms old φ) (whole : n ≡ length old) where
   queue_fresh : (k : ℕ) (it : QueuePlace) → slice_get queues k ≡ Some it → IsAmongQueues queues k it.prim → ⊥
