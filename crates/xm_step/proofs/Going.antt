@@ -9,12 +9,11 @@ use Rattle.xm_model.specs.Next.{joined, left, move, next_held, next_pending, nex
 use Rattle.xm_model.specs.Signals.{Signals, grant, only_if, pref_in}
 use Rattle.xm_model.specs.declared.state.Cell.{Cell}
 use Rattle.xm_model.specs.declared.state.Cell.TheVariants as cell
-use Rattle.xm_step.specs.Inner.Cells.{AllAdvance, CanAdvance, CanGoOn, HaveGone, IsAdvanced, IsGuarded, IsGuardedBy}
-use Rattle.xm_step.specs.Inner.Kinds.{AreKindsTo, IsAmongBoth, IsAmongQueues, IsHolderAt, IsHoldingOf, IsQueueAt}
+use Rattle.xm_step.specs.Advanced.{IsAdvanced, IsGuarded}
+use Rattle.xm_step.specs.Inner.Cells.{AllAdvance, CanAdvance, CanGoOn, HaveGone, IsGuardedBy}
+use Rattle.xm_step.specs.Inner.Kinds.{AreKindsTo, IsAmongBoth, IsAmongQueues, IsHolderAt, IsQueueAt}
 use Rattle.xm_step.specs.declared.kinds.Holder.{Holder}
-use Rattle.xm_step.specs.declared.kinds.Holding.{Holding}
 use Rattle.xm_step.specs.declared.kinds.Holding.TheVariants as holding
-use Rattle.xm_model.specs.declared.primitive.Side.{Side}
 use Rattle.xm_model.specs.declared.primitive.SinkMode.{SinkMode}
 use Rattle.xm_model.specs.declared.primitive.SourceMode.{SourceMode}
 use Rattle.xm_step.specs.Roomy.{IsRoomy, IsRoomyCell, cell_at}

@@ -5,7 +5,8 @@ use Rattle.std.proofs.lemmas.List.{length-map, map-set}
 use Rattle.xm_model.specs.Component.{Component, Queue}
 use Rattle.xm_model.specs.Signals.{Signals}
 use Rattle.xm_model.specs.declared.state.Cell.{Cell}
-use Rattle.xm_step.specs.Inner.Cells.{CanAdvance, CanGoOn, HaveGone, IsAdvanced, IsGuardedBy}
+use Rattle.xm_step.specs.Advanced.{IsAdvanced}
+use Rattle.xm_step.specs.Inner.Cells.{CanAdvance, CanGoOn, HaveGone, IsGuardedBy}
 use Rattle.xm_step.specs.Inner.Kinds.{AreKindsTo, IsAmongBoth, IsAmongQueues}
 use Rattle.xm_step.specs.Roomy.{IsRoomy}
 use Rattle.xm_step.specs.declared.kinds.Holder.{Holder}

@@ -1,27 +1,16 @@
 -- Inner: one cell past a cycle, and at reset. No public clause cites these.
-use Rattle.std.specs.Prelude.{◌≡◌, ℕ, nat_lt, List, [], length, slice_get, Some}
+use Rattle.std.specs.Prelude.{◌≡◌, ℕ, List, [], length, slice_get, Some}
 use Rattle.xm_model.specs.Component.{Component, Queue, content_of}
-use Rattle.xm_model.specs.Next.{content_after, reset_content}
+use Rattle.xm_model.specs.Next.{reset_content}
 use Rattle.xm_model.specs.Signals.{Signals}
 use Rattle.xm_model.specs.declared.state.Cell.{Cell}
-use Rattle.xm_model.specs.declared.state.Cell.TheVariants as cell
+use Rattle.xm_step.specs.Advanced.{IsAdvanced, IsGuarded}
 use Rattle.xm_step.specs.Inner.Kinds.{IsHoldingOf}
-use Rattle.xm_step.specs.Roomy.{IsRoomyCell, cell_at, room_in}
+use Rattle.xm_step.specs.Roomy.{IsRoomyCell, cell_at}
 use Rattle.xm_step.specs.declared.kinds.Holding.{Holding}
-
--- a queue with no free place is not ready
-abbrev pub IsGuarded : Component → Cell → Signals → Type 0
-IsGuarded (Queue input _ capacity _) (cell.Packets packets) φ = φ.ready input ≡ nat_lt (length packets.items) capacity
-IsGuarded _ _ _ = Unit {0}
 
 pub record IsGuardedBy (ms : List Component) (cells : List Cell) (φ : Signals) : Type 0 where
   pub guarded : (p : ℕ) (m : Component) → slice_get ms p ≡ Some m → IsGuarded m (cell_at cells p) φ
-
--- the cell went on by the cycle
-pub record IsAdvanced (m : Component) (old new : Cell) (φ : Signals) : Type 0 where
-  pub content : content_of new ≡ content_after m (content_of old) φ
-  pub roomy : IsRoomyCell m new
-  pub room : room_in m new ≡ room_in m old
 
 -- a queue's cell is roomy, and keeps its capacity in this cycle
 abbrev pub CanAdvance : ℕ → ℕ → ℕ → Cell → Signals → Type 0
