@@ -2,7 +2,7 @@
 use Rattle.std.specs.Prelude.{◌≡◌, ℕ, List, [], length, slice_get, Some}
 use Rattle.xm_model.specs.Component.{Component, Queue, content_of}
 use Rattle.xm_model.specs.Next.{reset_content}
-use Rattle.xm_model.specs.Signals.{Signals}
+use Rattle.xm_model.specs.Signals.{Signals, packets_in}
 use Rattle.xm_model.specs.declared.state.Cell.{Cell}
 use Rattle.xm_step.specs.Advanced.{IsAdvanced, IsGuarded}
 use Rattle.xm_step.specs.Inner.Kinds.{IsHoldingOf}
@@ -35,3 +35,13 @@ pub record AllAdvance (ms : List Component) (old new : List Cell) (φ : Signals)
 pub record IsResetCell (m : Component) (x : Cell) : Type 0 where
   pub content : content_of x ≡ reset_content m
   pub roomy : IsRoomyCell m x
+
+-- how many places the packets of a cell need
+abbrev pub places_in : Component → Cell → ℕ
+places_in (Queue _ _ capacity _) x = capacity
+places_in _ x = length (packets_in (content_of x))
+
+-- the cell holds the same, and is roomy
+pub record IsKept (m : Component) (x y : Cell) : Type 0 where
+  pub content : content_of y ≡ content_of x
+  pub roomy : IsRoomyCell m y
