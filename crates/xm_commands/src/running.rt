@@ -19,8 +19,9 @@ use crate::writing::{write_bytes, write_text};
 use std::alloc::Global;
 use xm_design::Design;
 use xm_io::Sink;
-use xm_model::{Names, State};
-use xm_step::{Evaluator, reset};
+use xm_model::Names;
+use xm_running::Running;
+use xm_step::{Evaluator, reset, running_of};
 use xm_tape::{Rows, Tape};
 use xm_trace::{Labels, Lines, RunText, rounds_join};
 
@@ -28,7 +29,7 @@ use xm_trace::{Labels, Lines, RunText, rounds_join};
 /// of one round, whose memory serves each.
 #[derive(Drop)]
 pub(crate) struct RunSoFar {
-    state: State,
+    running: Running,
     text: RunText,
     labels: Labels,
     lines: Lines,
@@ -88,7 +89,7 @@ fn write_round<K: Sink>(
         evaluator,
         &run.labels,
         rows,
-        &mut run.state,
+        &mut run.running,
         to,
         &mut run.lines,
     )?;
@@ -152,8 +153,9 @@ pub fn write_run<K: Sink>(
     ensures cause { IfErr result (IsWriteFault (K.faults out.old) (K.faults out.new)) }
 {
     let evaluator = Evaluator::new(alloc, design)?;
+    let state = reset(alloc, design)?;
     let mut run = RunSoFar {
-        state: reset(alloc, design)?,
+        running: running_of(alloc, design, &state)?,
         text: RunText::new(alloc, design)?,
         labels: Labels::new(alloc, names)?,
         lines: Lines::new(alloc),

@@ -106,8 +106,8 @@ prim_within xs choices op fits = let h = slice_get_within (map component_of xs) 
 pub component_read : (xs : List Primitive) (p : ℕ) (x : Primitive) (m : Component) → p < length xs → x ≡ get_or xs p x → slice_get (map component_of xs) p ≡ Some m → component_of x ≡ m
 component_read xs p x m h read has = let there = component_at xs p x h read in cc
 
-pub cell_read : (cells : List Cell) (p : ℕ) (x : Cell) → p < length cells → x ≡ get_or cells p x → content_of x ≡ content_at cells p
-cell_read cells p x h read = ap content_or (sym (slice_get_read cells (length cells) p x refl h read))
+pub cell_read : {X : Type 0} (cell : X → Cell) (xs : List X) (p : ℕ) (x : X) → p < length xs → x ≡ get_or xs p x → content_of (cell x) ≡ content_at (map cell xs) p
+cell_read cell xs p x h read = ap content_or (sym (slice_get-map cell xs p ∙ ap (option_map cell) (slice_get_read xs (length xs) p x refl h read)))
 
 -- signals that were made of the operation's primitive, kind by kind
 pub source_done : (choices : List ℕ) (m : Component) (s : Content) (w : Choice) (φ ψ : Signals) (p out choice : ℕ) (mode : SourceMode) → IsOperationOf choices (operation.Source p out choice mode) m →

@@ -15,15 +15,16 @@ ghost use Rattle.xm_plan.specs.Planned.{choice_for};
 ghost use Rattle.xm_plan.specs.Schedule.{ArePlaced, AreSettled, IsSchedule, LeavesOthers};
 ghost use Rattle.xm_plan.specs.declared.operation.Operation.{Operation as Op};
 
-use crate::cells::{chosen_offer, is_held, offer_in, packets, pending, preferred, ready_in};
+use crate::cells::{chosen_offer, offer_in, ready_in};
 use crate::equations::{
     granted, image, is_ready_sink, is_side_a, is_side_b, joined, offered, on_side_a, on_side_b,
     only, readied, taken_from,
 };
 use crate::operation::Operation;
 use crate::row::choice_in_row;
-use xm_model::{Cell, Choice, Prim, Side, SinkMode, SourceMode, Wire};
+use xm_model::{Choice, Prim, Side, SinkMode, SourceMode, Wire};
 use xm_order::Signal;
+use xm_running::HasCell;
 
 fn put_offer(wires: &mut [Wire], place: u32, offer: Option<u8>)
     requires { place < length wires.old }
@@ -52,35 +53,34 @@ fn plain_offer(mode: SourceMode, pending: Option<u8>, chosen: Option<u8>) -> Opt
     }
 }
 
-fn make_source(cell: &Cell, choice: Choice, out: u32, mode: SourceMode, wires: &mut [Wire])
+fn make_source<C: HasCell>(cell: &C, choice: Choice, out: u32, mode: SourceMode, wires: &mut [Wire])
     requires { out < length wires.old }
     ensures { (colours : Colours ℕ) → mode ≢ source_mode.Eager
-        → AreMade (Source out colours mode) (content_of cell.now) choice (signals_of wires.old)
+        → AreMade (Source out colours mode) (content_of (C.cell cell.now)) choice (signals_of wires.old)
         (signal.Offer out ∷ []) (signals_of wires.new) }
 {
-    let offer = plain_offer(mode, pending(cell), chosen_offer(choice));
+    let offer = plain_offer(mode, cell.pending(), chosen_offer(choice));
     put_offer(wires, out, offer);
 }
 
-fn make_sink(cell: &Cell, choice: Choice, input: u32, mode: SinkMode, wires: &mut [Wire])
+fn make_sink<C: HasCell>(cell: &C, choice: Choice, input: u32, mode: SinkMode, wires: &mut [Wire])
     requires { input < length wires.old }
-    ensures { AreMade (Sink input mode) (content_of cell.now) choice (signals_of wires.old)
+    ensures { AreMade (Sink input mode) (content_of (C.cell cell.now)) choice (signals_of wires.old)
         (signal.Ready input ∷ []) (signals_of wires.new) }
 {
-    let ready = is_ready_sink(mode, is_held(cell), choice);
+    let ready = is_ready_sink(mode, cell.is_held(), choice);
     put_ready(wires, input, ready);
 }
 
-fn make_queue(cell: &Cell, input: u32, out: u32, capacity: u32, wires: &mut [Wire])
+fn make_queue<C: HasCell>(cell: &C, input: u32, out: u32, capacity: u32, wires: &mut [Wire])
     requires input { input < length wires.old }
     requires out { out < length wires.old }
     ensures { (initial : Colours ℕ) (w : Chosen)
-        → AreMade (Queue input out capacity initial) (content_of cell.now) w (signals_of wires.old)
+        → AreMade (Queue input out capacity initial) (content_of (C.cell cell.now)) w (signals_of wires.old)
         (signal.Offer out ∷ signal.Ready input ∷ []) (signals_of wires.new) }
 {
-    let packets = packets(cell);
-    put_offer(wires, out, packets.first().copied());
-    put_ready(wires, input, packets.len() < capacity as usize);
+    put_offer(wires, out, cell.oldest());
+    put_ready(wires, input, cell.count() < capacity as usize);
 }
 
 fn make_function(table: &[u8], input: u32, out: u32, wires: &mut [Wire])
@@ -274,15 +274,15 @@ fn merge_ready_b(side: Side, wires: &[Wire], a: u32, b: u32, out: u32) -> bool
     is_side_b(granted(side, offer_in(wires, a), offer_in(wires, b))) && ready_in(wires, out)
 }
 
-fn make_merge(cell: &Cell, a: u32, b: u32, out: u32, wires: &mut [Wire])
+fn make_merge<C: HasCell>(cell: &C, a: u32, b: u32, out: u32, wires: &mut [Wire])
     requires a { a < length wires.old }
     requires b { b < length wires.old }
     requires out { out < length wires.old }
     ensures { (w : Chosen) → a ≢ b
-        → AreMade (Merge a b out) (content_of cell.now) w (signals_of wires.old)
+        → AreMade (Merge a b out) (content_of (C.cell cell.now)) w (signals_of wires.old)
         (signal.Offer out ∷ signal.Ready a ∷ signal.Ready b ∷ []) (signals_of wires.new) }
 {
-    let side = preferred(cell);
+    let side = cell.preferred();
     let offer = merge_offer(side, wires, a, b);
     put_offer(wires, out, offer);
     let ready_a = merge_ready_a(side, wires, a, b, out);
@@ -291,16 +291,16 @@ fn make_merge(cell: &Cell, a: u32, b: u32, out: u32, wires: &mut [Wire])
     put_ready(wires, b, ready_b);
 }
 
-fn make_one(
+fn make_one<C: HasCell>(
     prim: &Prim,
-    cell: &Cell,
+    cell: &C,
     row: &[Choice],
     place: u32,
     signal: Signal,
     wires: &mut [Wire],
 )
     requires { channel_of signal < length wires.old }
-    ensures { AreMade (component_of prim.now) (content_of cell.now) (choice_or (slice_get row.now place))
+    ensures { AreMade (component_of prim.now) (content_of (C.cell cell.now)) (choice_or (slice_get row.now place))
         (signals_of wires.old) (signal ∷ []) (signals_of wires.new) }
 {
     match signal {
@@ -354,11 +354,11 @@ fn to_a(prim: &Prim) -> &[bool]
 }
 
 /// Makes the signals of one operation.
-fn make(
+fn make<C: HasCell>(
     operation: Operation,
     prims: &[Prim],
     choices: &[u32],
-    cells: &[Cell],
+    cells: &[C],
     row: &[Choice],
     wires: &mut [Wire],
 )
@@ -366,7 +366,7 @@ fn make(
     requires placed { ArePlaced (map component_of prims.now) (length wires.old) }
     requires cells { length cells.now ≡ length prims.now }
     requires choices { length choices.now ≡ length prims.now }
-    ensures { IsDone (map component_of prims.now) (content_at cells.now) (choice_for choices.now row.now)
+    ensures { IsDone (map component_of prims.now) (content_at (map C.cell cells.now)) (choice_for choices.now row.now)
         (signals_of wires.old) operation (signals_of wires.new) }
 {
     match operation {
@@ -440,11 +440,11 @@ fn make(
 /// Does every operation. It is not inlined: within its one caller the compiler keeps the variables of this loop
 /// on the stack, which cost time in every cycle (measured with callgrind).
 #[inline(never)]
-pub fn make_all(
+pub fn make_all<C: HasCell>(
     operations: &[Operation],
     prims: &[Prim],
     choices: &[u32],
-    cells: &[Cell],
+    cells: &[C],
     row: &[Choice],
     wires: &mut [Wire],
 )
@@ -454,7 +454,7 @@ pub fn make_all(
     requires schedule { IsSchedule (map component_of prims.now) (all_tasks operations.now) }
     requires cells { length cells.now ≡ length prims.now }
     requires choices { length choices.now ≡ length prims.now }
-    ensures settled { AreSettled (map component_of prims.now) (content_at cells.now) (choice_for choices.now row.now)
+    ensures settled { AreSettled (map component_of prims.now) (content_at (map C.cell cells.now)) (choice_for choices.now row.now)
         (all_tasks operations.now) (signals_of wires.new) }
     ensures others { LeavesOthers (all_tasks operations.now) (signals_of wires.old) (signals_of wires.new) }
 {

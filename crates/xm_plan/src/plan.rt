@@ -14,7 +14,8 @@ use std::alloc::Global;
 use std::marker::Model;
 use std::snapshot::Snapshot;
 use xm_design::Task;
-use xm_model::{Cell, Choice, List, OutOfMemory, Prim, Wire};
+use xm_model::{Choice, List, OutOfMemory, Prim, Wire};
+use xm_running::HasCell;
 
 /// The operations of a cycle for some primitives, whose ports are places, and for some tasks. A contract sees the
 /// primitives, how many places there are, where the choice of each primitive stands in a row, and the tasks.
@@ -198,11 +199,11 @@ impl Plan {
     }
 
     /// Makes the signals of all tasks from the cells and a row of choices. All other signals stay.
-    pub fn solve(&self, prims: &[Prim], cells: &[Cell], row: &[Choice], wires: &mut [Wire])
+    pub fn solve<C: HasCell>(&self, prims: &[Prim], cells: &[C], row: &[Choice], wires: &mut [Wire])
         requires prims { map component_of prims.now ≡ self.now.prims }
         requires cells { length cells.now ≡ length prims.now }
         requires wires { length wires.old ≡ self.now.places }
-        ensures settled { AreSettled self.now.prims (content_at cells.now) (choice_for self.now.choices row.now)
+        ensures settled { AreSettled self.now.prims (content_at (map C.cell cells.now)) (choice_for self.now.choices row.now)
             self.now.tasks (signals_of wires.new) }
         ensures others { LeavesOthers self.now.tasks (signals_of wires.old) (signals_of wires.new) }
     {

@@ -1,30 +1,25 @@
 -- Inner: one cell past a cycle, and at reset. No public clause cites these.
-use Rattle.std.specs.Prelude.{◌≡◌, ℕ, nat_lt, List, [], length, slice_get, Some}
+use Rattle.std.specs.Prelude.{◌≡◌, ℕ, List, [], length, slice_get, Some}
 use Rattle.xm_model.specs.Component.{Component, Queue, content_of}
-use Rattle.xm_model.specs.Next.{content_after, reset_content}
-use Rattle.xm_model.specs.Signals.{Signals}
+use Rattle.xm_model.specs.Next.{reset_content}
+use Rattle.xm_model.specs.Signals.{Signals, packets_in}
 use Rattle.xm_model.specs.declared.state.Cell.{Cell}
-use Rattle.xm_model.specs.declared.state.Cell.TheVariants as cell
-use Rattle.xm_step.specs.Roomy.{IsRoomyCell, cell_at, room_in}
-
--- a queue with no free place is not ready
-abbrev pub IsGuarded : Component → Cell → Signals → Type 0
-IsGuarded (Queue input _ capacity _) (cell.Packets packets) φ = φ.ready input ≡ nat_lt (length packets.items) capacity
-IsGuarded _ _ _ = Unit {0}
+use Rattle.xm_step.specs.Advanced.{IsAdvanced, IsGuarded}
+use Rattle.xm_step.specs.Inner.Kinds.{IsHoldingOf}
+use Rattle.xm_step.specs.Roomy.{IsRoomyCell, cell_at}
+use Rattle.xm_step.specs.declared.kinds.Holding.{Holding}
 
 pub record IsGuardedBy (ms : List Component) (cells : List Cell) (φ : Signals) : Type 0 where
   pub guarded : (p : ℕ) (m : Component) → slice_get ms p ≡ Some m → IsGuarded m (cell_at cells p) φ
-
--- the cell went on by the cycle
-pub record IsAdvanced (m : Component) (old new : Cell) (φ : Signals) : Type 0 where
-  pub content : content_of new ≡ content_after m (content_of old) φ
-  pub roomy : IsRoomyCell m new
-  pub room : room_in m new ≡ room_in m old
 
 -- a queue's cell is roomy, and keeps its capacity in this cycle
 abbrev pub CanAdvance : ℕ → ℕ → ℕ → Cell → Signals → Type 0
 CanAdvance input out capacity x φ =
     IsRoomyCell (Queue input out capacity []) x × IsGuarded (Queue input out capacity []) x φ
+
+-- this is what the primitive holds, and its cell can go on in this cycle
+abbrev pub CanGoOn : Holding → Component → Cell → Signals → Type 0
+CanGoOn h m x φ = IsHoldingOf h m × (IsRoomyCell m x × IsGuarded m x φ)
 
 -- the cells of some primitives went on, and all others are as they were
 pub record HaveGone (ms : List Component) (old new : List Cell) (φ : Signals) (Gone : ℕ → Type 0) : Type 0 where
@@ -40,3 +35,13 @@ pub record AllAdvance (ms : List Component) (old new : List Cell) (φ : Signals)
 pub record IsResetCell (m : Component) (x : Cell) : Type 0 where
   pub content : content_of x ≡ reset_content m
   pub roomy : IsRoomyCell m x
+
+-- how many places the packets of a cell need
+abbrev pub places_in : Component → Cell → ℕ
+places_in (Queue _ _ capacity _) x = capacity
+places_in _ x = length (packets_in (content_of x))
+
+-- the cell holds the same, and is roomy
+pub record IsKept (m : Component) (x y : Cell) : Type 0 where
+  pub content : content_of y ≡ content_of x
+  pub roomy : IsRoomyCell m y

@@ -8,19 +8,19 @@ use Rattle.xm_plan.specs.Schedule.{ArePlaced}
 use Rattle.xm_plan.proofs.making.make_all.Goals as goal
 
 pub loop-operation-init : goal.loop-operation-init
-loop-operation-init c = none_settled _ _ _ _ _
+loop-operation-init g c = none_settled _ _ _ _ _
 
 pub make-requires-clause-placed : goal.make-requires-clause-placed
-make-requires-clause-placed c =
+make-requires-clause-placed g c =
     let same : length c.args.wires.now ≡ length c.loop-operation.wires = omega arith in
     subst (λ (n : ℕ). ArePlaced (map component_of c.args.prims.now) n) same c.requires.placed
 
 pub loop-operation-preserved : goal.loop-operation-preserved
-loop-operation-preserved c =
-    operation_settled _ (content_at c.args.cells.now) (choice_for c.args.choices.now c.args.row.now) c.args.operations.now c.requires.schedule (signals_of c.args.wires.now) (signals_of c.loop-operation.wires) (signals_of c.make.new.wires) c.args.choices.now c.loop-operation.operation-index _
+loop-operation-preserved g c =
+    operation_settled _ (content_at (map g.C.HasCell.cell c.args.cells.now)) (choice_for c.args.choices.now c.args.row.now) c.args.operations.now c.requires.schedule (signals_of c.args.wires.now) (signals_of c.loop-operation.wires) (signals_of c.make.new.wires) c.args.choices.now c.loop-operation.operation-index _
     (slice_get-get_or c.args.operations.now c.loop-operation.operation-index _ c.loop-operation-test.true) (c.requires.fit c.loop-operation.operation-index _ (slice_get-get_or c.args.operations.now c.loop-operation.operation-index _ c.loop-operation-test.true)) c.loop-operation.invariant c.make.ensures
 
 pub returns : goal.returns
-returns c =
-    let all = all_settled _ (content_at c.args.cells.now) (choice_for c.args.choices.now c.args.row.now) c.args.operations.now (signals_of c.args.wires.now) (signals_of c.loop-operation.wires) c.loop-operation.operation-index c.loop-operation-test.false c.loop-operation.invariant in
+returns g c =
+    let all = all_settled _ (content_at (map g.C.HasCell.cell c.args.cells.now)) (choice_for c.args.choices.now c.args.row.now) c.args.operations.now (signals_of c.args.wires.now) (signals_of c.loop-operation.wires) c.loop-operation.operation-index c.loop-operation-test.false c.loop-operation.invariant in
     record { settled = all.0; others = all.1 }

@@ -7,6 +7,6 @@ use Rattle.xm_plan.specs.Planned.{choice_for}
 use Rattle.xm_plan.proofs.making.make_all.Given as goal
 
 abbrev pub invariant-loop-operation : goal.invariant-loop-operation
-invariant-loop-operation l =
-    AreSettledTo (map component_of l.prims) (content_at l.cells) (choice_for l.choices l.row) (all_tasks l.operations) (signals_of l.initial.wires)
+invariant-loop-operation g l =
+    AreSettledTo (map component_of l.prims) (content_at (map g.C.HasCell.cell l.cells)) (choice_for l.choices l.row) (all_tasks l.operations) (signals_of l.initial.wires)
     (length (all_tasks (take l.operation-index l.operations))) (signals_of l.wires)

@@ -5,7 +5,7 @@ use Rattle.xm_plan.proofs.AtPorts.{not_first}
 use Rattle.xm_plan.proofs.making.make_merge.Goals as goal
 
 pub returns : goal.returns
-returns c = λ w apart. (
+returns g c = λ w apart. (
   signals_of c.put_offer.new.wires,
   (
     record { value = c.put_offer.ensures.value ∙ (rw c.preferred-side.ensures at c.merge_offer-offer.ensures); only = c.put_offer.ensures.only },

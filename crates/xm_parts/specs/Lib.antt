@@ -1,0 +1,15 @@
+pub mod Balanced
+pub mod Built
+pub mod Copied
+pub mod Far
+pub mod Given
+pub mod Gluing
+pub mod Going
+pub mod Grouped
+pub mod Kept
+pub mod PartLaw
+pub mod Partition
+pub mod Passing
+pub mod Projection
+pub mod Rows
+pub mod Showing

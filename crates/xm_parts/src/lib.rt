@@ -1,0 +1,26 @@
+//! Partitions of a net, what a part has of a state and a frame, and the step of one part.
+#![tactic(auto)]
+
+mod balanced;
+mod build;
+mod fault;
+mod given;
+mod glue;
+mod islands_of;
+mod laws;
+mod making;
+mod moves;
+mod part;
+mod parts;
+mod row;
+mod step;
+
+pub use fault::PartFault;
+pub use glue::Glue;
+pub use islands_of::islands;
+pub use laws::{far_law, glue_law, part_law};
+pub use making::project;
+pub use moves::far;
+pub use parts::Parts;
+pub use row::{FarMoves, PartRow, PrimCell, Snapshot};
+pub use step::part_step;

@@ -1,0 +1,148 @@
+//! The step of one part.
+
+ghost use Rattle.std.specs.Prelude.{◌≡◌, ◌<◌, ◌≤◌, ℕ, false, length, map};
+ghost use Rattle.xm_model.specs.Component.{Content, component_of, content_of};
+ghost use Rattle.xm_model.specs.Frame.{IsFrame};
+ghost use Rattle.xm_model.specs.Views.{choice_at};
+ghost use Rattle.xm_model.specs.Lemmas.Local.{IsPort};
+ghost use Rattle.xm_model.specs.Next.{move, next};
+ghost use Rattle.xm_parts.specs.Going.{AllGoOn, CanGoOn, HasGone, HasPlace};
+ghost use Rattle.xm_model.specs.Signals.{Signals, packets_in};
+ghost use Rattle.xm_parts.specs.Kept.{label_at};
+ghost use Rattle.xm_parts.specs.Showing.{ShowsState};
+ghost use Rattle.xm_parts.specs.Partition.{channels_in, is_queue, prims_in};
+ghost use Rattle.xm_parts.specs.Projection.{IsCycle, projection, wire_of};
+ghost use Rattle.xm_parts.specs.Rows.{IsRoomyRow, cell_in, part_signals, row_of};
+ghost use Rattle.xm_step.specs.Roomy.{IsRoomyCell};
+
+use crate::parts::Parts;
+use crate::row::{FarMoves, PartRow, PrimCell};
+use xm_design::Design;
+use xm_model::{Cell, Choice, List, Prim, Wire};
+use xm_plan::moved_at;
+use xm_running::{HasCell, advance_queue};
+use xm_step::advance_cell;
+
+/// Makes the packets of a queue these. There is room for them.
+pub(crate) fn refill(q: &mut List<u8>, packets: &[u8])
+    requires { length packets.now ≤ q.old.room }
+    ensures items { q.new.items ≡ packets.now }
+    ensures room { q.new.room ≡ q.old.room }
+{
+    q.truncate(0);
+    for k in 0..packets.len() {
+        let _ = q.push(packets[k]);
+    }
+}
+
+/// What moves on the channel at a place: an own channel, or a far one behind them.
+fn part_move(wires: &[Wire], far: &[Option<u8>], place: u32) -> Option<u8>
+    ensures { result ≡ move (part_signals wires.now far.now) place }
+{
+    if (place as usize) < wires.len() {
+        return moved_at(wires, place);
+    }
+    match far.get(place as usize - wires.len()) {
+        Some(moved) => *moved,
+        None => None,
+    }
+}
+
+/// The packets of a queue's cell, the oldest first.
+fn packets(cell: &Cell) -> &[u8]
+    ensures { result.now ≡ packets_in (content_of cell.now) }
+{
+    match cell {
+        Cell::Packets(packets) => packets.as_slice(),
+        _ => &[],
+    }
+}
+
+/// Makes `to` what a primitive holds after the cycle in which it held `from`.
+fn go_on(prim: &Prim, from: &Cell, wires: &[Wire], far: &[Option<u8>], to: &mut Cell)
+    requires from { IsRoomyCell (component_of prim.now) from.now }
+    requires to { IsRoomyCell (component_of prim.now) to.old }
+    requires place { HasPlace (component_of prim.now) from.now (part_signals wires.now far.now) }
+    requires own { is_queue (component_of prim.now) ≡ false → (c : ℕ) → IsPort (component_of prim.now) c → c < length wires.now }
+    ensures { HasGone (component_of prim.now) from.now to.new (part_signals wires.now far.now) }
+{
+    match prim {
+        Prim::Queue { input, out, .. } => {
+            if let Cell::Packets(q) = to {
+                refill(q, packets(from));
+                advance_queue(
+                    q,
+                    part_move(wires, far, *out),
+                    part_move(wires, far, *input),
+                );
+            }
+        }
+        _ => {
+            *to = Cell::Pref(from.preferred());
+            advance_cell(to, prim, wires);
+        }
+    }
+}
+
+/// Makes the cells of `out` what the part's primitives hold after the cycle in which they held those of `old`.
+#[inline(never)]
+fn go_on_all(
+    locals: &[Prim],
+    old: &[PrimCell],
+    wires: &[Wire],
+    far: &[Option<u8>],
+    out: &mut [PrimCell],
+)
+    requires { CanGoOn (map component_of locals.now) old.now out.old (part_signals wires.now far.now) (length wires.now) }
+    ensures { AllGoOn (map component_of locals.now) old.now out.old out.new (part_signals wires.now far.now) }
+{
+    for k in 0..locals.len() {
+        go_on(&locals[k], &old[k].cell, wires, far, &mut out[k].cell);
+    }
+}
+
+/// Makes the signals of part `p` by its plan: those of the frame of any state whose contents the cells show.
+#[inline(never)]
+fn solve(parts: &Parts, p: u32, cells: &[PrimCell], w: &[Choice], wires: &mut [Wire])
+    requires part { p < parts.now.count }
+    requires cells { length cells.now ≡ length (prims_in parts.now.design.net (label_at parts.now.labels) p) }
+    requires wires { length wires.old ≡ length (channels_in parts.now.design.net (label_at parts.now.labels) p) }
+    ensures { (s : ℕ → Content) (φ : Signals) → ShowsState parts.now.design.net (label_at parts.now.labels) p cells.now s → IsFrame parts.now.design.net s (choice_at parts.now.design.net.prims w.now) φ → wires.new ≡ map (wire_of φ) (channels_in parts.now.design.net (label_at parts.now.labels) p) }
+{
+    let _count = parts.count();
+    let part = parts.part(p);
+    part.plan.solve(part.planned.as_slice(), cells, w, wires);
+}
+
+/// The step of part `p`: where `old` is what the part has of a cycle and `far` what moves in it on the far sides
+/// of its cut queues, `out` becomes what it has one cycle on, in which the choices are `w`. The time is linear in
+/// the part's primitives, channels and packets, and no memory is taken.
+pub fn part_step(
+    design: &Design,
+    parts: &Parts,
+    p: u32,
+    old: &PartRow,
+    far: &FarMoves,
+    w: &[Choice],
+    out: &mut PartRow,
+)
+    requires design { parts.now.design ≡ design.now }
+    requires part { p < parts.now.count }
+    requires cycle { IsCycle design.now.net (label_at parts.now.labels) p (row_of old.now) far.now }
+    requires old { IsRoomyRow design.now.net (label_at parts.now.labels) p old.now }
+    requires out { IsRoomyRow design.now.net (label_at parts.now.labels) p out.old }
+    ensures step { (at : IsCycle design.now.net (label_at parts.now.labels) p (row_of old.now) far.now) (φ : Signals) → IsFrame design.now.net (next design.now.net at.state at.frame) (choice_at design.now.net.prims w.now) φ → row_of out.new ≡ projection design.now.net (label_at parts.now.labels) p (next design.now.net at.state at.frame) φ }
+    ensures roomy { IsRoomyRow design.now.net (label_at parts.now.labels) p out.new }
+{
+    let _net = design.net();
+    let _count = parts.count();
+    let part = parts.part(p);
+    go_on_all(
+        part.locals.as_slice(),
+        old.cells.as_slice(),
+        old.wires.as_slice(),
+        far.moves.as_slice(),
+        out.cells.as_mut_slice(),
+    );
+    solve(parts, p, out.cells.as_slice(), w, out.wires.as_mut_slice());
+}
