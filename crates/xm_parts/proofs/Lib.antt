@@ -3,10 +3,12 @@ pub mod CellsAt
 pub mod Cut
 pub mod FarMoving
 pub mod Filtered
+pub mod FitRows
 pub mod Gluing
 pub mod Going
 pub mod Grouping
 pub mod Listing
+pub mod Neighbouring
 pub mod PartOrder
 pub mod Parting
 pub mod Passing

@@ -8,6 +8,7 @@ use Rattle.xm_model.specs.Net.{HasPrim, Network}
 use Rattle.xm_order.specs.Dependence.{channel_of}
 use Rattle.xm_order.specs.declared.signal.Signal.{Signal}
 use Rattle.xm_order.specs.declared.signal.Signal.TheVariants as signal
+use Rattle.xm_parts.specs.Near.{AreNear}
 use Rattle.xm_parts.specs.Partition.{IsPartition, channels_in, cuts_in, far_at, is_cut, lies_in, prims_in}
 use Rattle.xm_parts.specs.Passing.{place}
 use Rattle.xm_plan.specs.Planned.{Planned}
@@ -92,6 +93,7 @@ pub record IsPartOf (it : Designed) (label : ℕ → ℕ) (p : ℕ) (part : Part
   pub planned : map component_of part.planned.items ≡ part.plan.prims
   pub plan : IsPlanOf it label p part.plan
   pub cuts : AreCutsOf it.net label p part.cuts.items
+  pub neighbours : AreNear it.net label p part.neighbours.items
 
 -- a design with a label for each channel, and the number of parts
 pub record Division : Type 0 where

@@ -14,6 +14,7 @@ ghost use Rattle.xm_parts.specs.Kept.{AreCutsOf, AreLocalsOf, AreRenamed, AreTas
 ghost use Rattle.xm_parts.specs.Partition.{IsPartition, channels_in, cuts_in, far_channel, prims_in, touches, touches_at};
 ghost use Rattle.xm_parts.specs.Partition.{lies_in as lies_in_part};
 
+use crate::near::neighbours_of;
 use crate::part::{Cut, Part};
 use std::alloc::Global;
 use xm_design::{Design, Task};
@@ -453,6 +454,7 @@ fn part_of(
     requires whole { length labels.now ≡ design.now.net.channels }
     requires places { ArePlaces labels.now places.now }
     requires partition { IsPartition design.now.net (label_at labels.now) }
+    requires labels { All (λ x. x < 64) labels.now }
     ensures { IfOk result (IsPartOf design.now (label_at labels.now) p) }
 {
     let net = design.net();
@@ -473,6 +475,7 @@ fn part_of(
         own,
     )?;
     let cuts = cuts_of(alloc, net, labels, places, p)?;
+    let neighbours = neighbours_of(alloc, net, labels, p, cuts.as_slice())?;
     Ok(Part {
         prims,
         locals,
@@ -480,6 +483,7 @@ fn part_of(
         planned,
         plan,
         cuts,
+        neighbours,
     })
 }
 

@@ -5,7 +5,7 @@ ghost use Rattle.xm_model.specs.Component.{Content, component_of, content_of};
 ghost use Rattle.xm_model.specs.Frame.{IsFrame};
 ghost use Rattle.xm_model.specs.Views.{choice_at};
 ghost use Rattle.xm_model.specs.Lemmas.Local.{IsPort};
-ghost use Rattle.xm_model.specs.Next.{move, next};
+ghost use Rattle.xm_model.specs.Next.{content_after, move, next};
 ghost use Rattle.xm_parts.specs.Going.{AllGoOn, CanGoOn, HasGone, HasPlace};
 ghost use Rattle.xm_model.specs.Signals.{Signals, packets_in};
 ghost use Rattle.xm_parts.specs.Kept.{label_at};
@@ -20,7 +20,7 @@ use crate::row::{FarMoves, PartRow, PrimCell};
 use xm_design::Design;
 use xm_model::{Cell, Choice, List, Prim, Wire};
 use xm_plan::moved_at;
-use xm_running::{HasCell, advance_queue};
+use xm_running::{ChangesCell, HasCell, advance_queue};
 use xm_step::advance_cell;
 
 /// Makes the packets of a queue these. There is room for them.
@@ -58,6 +58,18 @@ fn packets(cell: &Cell) -> &[u8]
     }
 }
 
+/// Makes the side that a merge prefers that of `from`. The next content of another primitive, a queue apart, asks
+/// nothing of the one before.
+fn take_side(prim: &Prim, from: &Cell, to: &mut Cell)
+    ensures { is_queue (component_of prim.now) ≡ false → (φ : Signals)
+        → content_after (component_of prim.now) (content_of to.new) φ ≡ content_after (component_of prim.now) (content_of from.now) φ }
+{
+    match prim {
+        Prim::Merge { .. } => to.put_preferred(from.preferred()),
+        _ => {}
+    }
+}
+
 /// Makes `to` what a primitive holds after the cycle in which it held `from`.
 fn go_on(prim: &Prim, from: &Cell, wires: &[Wire], far: &[Option<u8>], to: &mut Cell)
     requires from { IsRoomyCell (component_of prim.now) from.now }
@@ -78,7 +90,7 @@ fn go_on(prim: &Prim, from: &Cell, wires: &[Wire], far: &[Option<u8>], to: &mut 
             }
         }
         _ => {
-            *to = Cell::Pref(from.preferred());
+            take_side(prim, from, to);
             advance_cell(to, prim, wires);
         }
     }
