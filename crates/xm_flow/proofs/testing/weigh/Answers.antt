@@ -5,7 +5,7 @@ use Rattle.std.proofs.lemmas.List.Elements.{All-weaker}
 use Rattle.xm_flow.specs.declared.invariant.Part.{Part}
 use Rattle.xm_flow.specs.declared.testing.Slot.{Slot}
 use Rattle.xm_flow.proofs.Adding.{part_leaves, weighed_all, weighed_more, weighed_none}
-use Rattle.xm_flow.proofs.testing.weighs.Goals as goal
+use Rattle.xm_flow.proofs.testing.weigh.Goals as goal
 
 pub loop-part-init : goal.loop-part-init
 loop-part-init c = record {
@@ -23,16 +23,13 @@ loop-part-preserved c =
       below = c.in-Some.ensures.below c.loop-part.invariant.below;
     }
 
-pub returns-in_default-clause-fits : goal.returns-in_default-clause-fits
-returns-in_default-clause-fits c =
+pub returns-in_default-clause-leaves : goal.returns-in_default-clause-leaves
+returns-in_default-clause-leaves c =
     let none : Part = record { flow = 0; factor = pos 0 } in
-    let never = part_leaves c.args.n c.args.flow.now c.args.parts.now c.loop-part.part-index none c.loop-part.slots (to_z w128 c.loop-part.total-bits) c.loop-part-test.true
-    c.loop-part.invariant.weighed c.in_default.ensures.leaves in
-    (λ is. absurd (cc), λ fit. absurd (never fit))
+    part_leaves c.args.n c.args.flow.now c.args.parts.now c.loop-part.part-index none c.loop-part.slots (to_z w128 c.loop-part.total-bits) c.loop-part-test.true
+    c.loop-part.invariant.weighed c.in_default.ensures.leaves
 
-pub returns-clause-fits : goal.returns-clause-fits
-returns-clause-fits c = (
-  λ done. weighed_all c.args.n c.args.flow.now c.args.parts.now c.loop-part.part-index c.loop-part.slots (to_z w128 c.loop-part.total-bits) c.loop-part-test.false
-      c.loop-part.invariant.weighed,
-  λ fit. refl,
-)
+pub returns-clause-weighed : goal.returns-clause-weighed
+returns-clause-weighed c =
+    weighed_all c.args.n c.args.flow.now c.args.parts.now c.loop-part.part-index c.loop-part.slots (to_z w128 c.loop-part.total-bits) c.loop-part-test.false
+    c.loop-part.invariant.weighed
