@@ -2,5 +2,4 @@ pub mod Texts
 pub mod After
 pub mod Rows
 pub mod Counting
-pub mod Pairs
 pub mod Whole

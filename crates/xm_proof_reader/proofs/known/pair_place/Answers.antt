@@ -2,7 +2,7 @@ use Rattle.std.proofs.Common.{◌≡◌, ℕ, Some, None, slice_get, sym, subst,
 use Rattle.xm_colours.specs.Family.{colours_at}
 use Rattle.xm_model.specs.Membership.{IsIn}
 use Rattle.xm_proof_reader.specs.Inner.Outputs.{output_of}
-use Rattle.xm_proof_reader.proofs.Pairs.{placed, unplaced}
+use Rattle.xm_proof_reader.specs.Lemmas.Pairs.{placed, unplaced}
 use Rattle.xm_proof_reader.proofs.known.pair_place.Goals as goal
 
 pub returns-in_default : goal.returns-in_default
