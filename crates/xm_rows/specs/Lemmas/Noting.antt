@@ -20,6 +20,32 @@ pub in_right : (xs ys : List ℕ) (j : ℕ) → IsIn ys j → IsIn (xs ++ ys) j
 in_right [] ys j h = h
 in_right (x ∷ xs) ys j h = inr (in_right xs ys j h)
 
+pub in_push : (xs : List ℕ) (y j : ℕ) → IsIn (xs ++ y ∷ []) j → IsIn xs j ⊎ (y ≡ j)
+in_push [] y j (inl is) = inr is
+in_push [] y j (inr none) = absurd none
+in_push (x ∷ xs) y j (inl is) = inl (inl is)
+in_push (x ∷ xs) y j (inr h) = elim (in_push xs y j h) [ inl early ↦ inl (inr early) | inr last ↦ inr last ]
+
+pub in_last : (xs : List ℕ) (y : ℕ) → IsIn (xs ++ y ∷ []) y
+in_last [] y = inl refl
+in_last (x ∷ xs) y = inr (in_last xs y)
+
+pub in_or_not : (xs : List ℕ) (j : ℕ) → IsIn xs j ⊎ (IsIn xs j → ⊥)
+in_or_not [] j = inr (λ h. absurd h)
+in_or_not (x ∷ xs) j =
+    elim (cases_eq x j) [
+      | inl same ↦ inl (inl same)
+      | inr other ↦ elim (in_or_not xs j) [
+        | inl later ↦ inl (inr later)
+        | inr not ↦ inr (λ h. elim h [ inl is ↦ absurd (other is) | inr later ↦ not later ])
+      ]
+    ]
+
+pub in_below : (n : ℕ) (xs : List ℕ) (j : ℕ) → All (λ k. k < n) xs → IsIn xs j → j < n
+in_below n [] j all inside = absurd inside
+in_below n (x ∷ xs) j all (inl is) = let low = All-head (λ k. k < n) x xs all in omega (arith, is, low)
+in_below n (x ∷ xs) j all (inr later) = in_below n xs j (All-tail (λ k. k < n) x xs all) later
+
 -- ---- noting
 
 -- nothing is noted where there is no list for the column
