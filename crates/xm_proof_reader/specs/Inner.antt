@@ -1,2 +1,2 @@
 -- What private clauses cite, and no public one.
-pub mod Views
+pub mod Outputs

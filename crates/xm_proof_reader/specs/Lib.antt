@@ -1,5 +1,6 @@
 pub mod Gives
 pub mod Inner
 pub mod Known
+pub mod Lemmas
 pub mod Numbers
 pub mod Reading

@@ -1,22 +1,23 @@
 //! What a reader of proofs knows: the design, its names and its queue pairs.
 
-ghost use Rattle.std.specs.Prelude.{◌≡◌, Some, option_and_then};
+ghost use Rattle.std.specs.Prelude.{◌≡◌, Some, option_and_then, slice_get};
 ghost use Rattle.serde_json.specs.Find.{as_str};
 ghost use Rattle.serde_json.specs.View.{view};
 ghost use Rattle.xm_model.specs.Naming.{texts_of};
-ghost use Rattle.xm_proof_reader.specs.Inner.Views.{known_of};
+ghost use Rattle.xm_proof.specs.Tests.{queue_columns};
+ghost use Rattle.xm_proof_reader.specs.Inner.Outputs.{output_of};
+ghost use Rattle.xm_proof_reader.specs.Known.{known_of};
 ghost use Rattle.xm_proof_reader.specs.Known as spec;
 
 use serde_json::Value;
 use xm_design::Design;
-use xm_model::{List, Names, Prim, Text};
+use xm_model::{Names, Prim, Text};
 
-/// The design, its names, and its queue pairs in their order.
-#[derive(Drop)]
+/// The design whose net a proof speaks of, and the names of its primitives, channels and colours.
+#[derive(Clone, Copy)]
 pub struct Known<'a> {
     pub design: &'a Design,
     pub names: &'a Names,
-    pub pairs: List<(u32, u8)>,
 }
 
 /// The first place of a name.
@@ -53,7 +54,7 @@ fn colour_named(known: &Known<'_>, name: &str) -> Option<u8>
 
 /// The place as a number, where it is that of a queue.
 fn queue_number(design: &Design, place: usize) -> Option<u32>
-    ensures { result ≡ spec.only_queue design.now (Some place) }
+    ensures { result ≡ spec.only_queue design.now.net (Some place) }
 {
     let net = design.net();
     if place >= net.prims().len() {
@@ -105,14 +106,30 @@ pub fn queue_in(known: &Known<'_>, value: &Value) -> Option<u32>
     }
 }
 
-/// The place of a queue pair among all.
-pub fn pair_place(pairs: &[(u32, u8)], q: u32, d: u8) -> Option<usize>
-    ensures { result ≡ spec.pair_from 0 pairs.now q d }
+/// The output of the primitive with this number, where it is a queue.
+fn queue_output(design: &Design, q: u32) -> Option<u32>
+    ensures { result ≡ output_of (slice_get design.now.net.prims q) }
 {
-    for i in 0..pairs.len() {
-        if pairs[i].0 == q && pairs[i].1 == d {
-            return Some(i);
-        }
+    let net = design.net();
+    if q as usize >= net.prims().len() {
+        return None;
     }
-    None
+    match net.prim(q) {
+        Prim::Queue { out, .. } => Some(*out),
+        _ => None,
+    }
+}
+
+/// The place of a queue pair among all.
+pub fn pair_place(design: &Design, q: u32, d: u8) -> Option<u32>
+    ensures { result ≡ spec.pair_from 0 (queue_columns design.now) q d }
+{
+    design.is_designed();
+    let Some(out) = queue_output(design, q) else {
+        return None;
+    };
+    if !design.colours().has(out, d) {
+        return None;
+    }
+    Some(design.queue_pair(q, d))
 }

@@ -2,6 +2,7 @@
 #![tactic(auto)]
 
 mod fault;
+mod found;
 mod goals;
 mod items;
 mod known;
@@ -13,4 +14,5 @@ mod numbers;
 mod read;
 
 pub use fault::ProofFault;
+pub use known::Known;
 pub use read::read_proof;

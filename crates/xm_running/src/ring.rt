@@ -34,13 +34,17 @@ impl Model for Ring {
 impl Ring {
     ghost use Rattle.std.specs.Prelude.{◌≡◌, ◌+◌, ◌%◌, ◌<◌, ◌≤◌, [], ◌∷◌, ◌++◌, drop, length, slice_get, IfOk};
 
-    /// An empty ring with so many places, but with one at least.
-    pub fn new(alloc: Global, places: u32) -> Result<Ring, OutOfMemory>
+    /// An empty ring with so many places, but with one at least. More than 2^32 are refused as if there were no
+    /// memory for them.
+    pub fn new(alloc: Global, places: usize) -> Result<Ring, OutOfMemory>
         ensures empty { IfOk result (λ ring. ring.items ≡ []) }
         ensures room { IfOk result (λ ring. places ≤ ring.room) }
     {
+        if places > u32::MAX as usize {
+            return Err(OutOfMemory);
+        }
         let mut held = Vec::new(alloc);
-        held.resize(places.max(1) as usize, 0)?;
+        held.resize(places.max(1), 0)?;
         Ok(Ring {
             places: held,
             head: 0,
@@ -49,7 +53,7 @@ impl Ring {
     }
 
     /// A ring with these packets, and with so many places, but with one at least.
-    pub fn filled(alloc: Global, places: u32, packets: &[u8]) -> Result<Ring, OutOfMemory>
+    pub fn filled(alloc: Global, places: usize, packets: &[u8]) -> Result<Ring, OutOfMemory>
         requires { length packets.now ≤ places }
         ensures items { IfOk result (λ ring. ring.items ≡ packets.now) }
         ensures room { IfOk result (λ ring. places ≤ ring.room) }

@@ -43,7 +43,7 @@ impl Slot {
     ghost use Rattle.xm_running.specs.Passing.{HasPlaces};
 
     /// A slot with this cell, and with so many places for the packets of a queue.
-    pub fn from_cell(alloc: Global, cell: &Cell, places: u32) -> Result<Slot, OutOfMemory>
+    pub fn from_cell(alloc: Global, cell: &Cell, places: usize) -> Result<Slot, OutOfMemory>
         requires { length (packets_in (content_of cell.now)) ≤ places }
         ensures content { IfOk result (λ slot. content_of slot ≡ content_of cell.now) }
         ensures room { IfOk result (HasPlaces places) }

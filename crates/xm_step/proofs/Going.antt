@@ -4,14 +4,18 @@ use Rattle.std.specs.Option.{option_to_list}
 use Rattle.std.proofs.lemmas.Bool.{cases_lt, ltb-true}
 use Rattle.std.proofs.lemmas.List.{get_or_default}
 use Rattle.std.proofs.lemmas.Option.{slice_get_within}
-use Rattle.xm_model.specs.Component.{Component, Queue}
-use Rattle.xm_model.specs.Next.{joined, left, move}
-use Rattle.xm_model.specs.Signals.{Signals, only_if}
+use Rattle.xm_model.specs.Component.{Component, Fork, Function, Join, Merge, Queue, Sink, Source, Switch, content_of}
+use Rattle.xm_model.specs.Next.{joined, left, move, next_held, next_pending, next_pref}
+use Rattle.xm_model.specs.Signals.{Signals, grant, only_if, pref_in}
 use Rattle.xm_model.specs.declared.state.Cell.{Cell}
 use Rattle.xm_model.specs.declared.state.Cell.TheVariants as cell
 use Rattle.xm_step.specs.Advanced.{IsAdvanced, IsGuarded}
-use Rattle.xm_step.specs.Inner.Cells.{AllAdvance, CanAdvance, HaveGone, IsGuardedBy}
-use Rattle.xm_step.specs.Inner.Kinds.{AreKindsTo, IsAmongBoth, IsAmongQueues, IsQueueAt}
+use Rattle.xm_step.specs.Inner.Cells.{AllAdvance, CanAdvance, CanGoOn, HaveGone, IsGuardedBy}
+use Rattle.xm_step.specs.Inner.Kinds.{AreKindsTo, IsAmongBoth, IsAmongQueues, IsHolderAt, IsQueueAt}
+use Rattle.xm_step.specs.declared.kinds.Holder.{Holder}
+use Rattle.xm_step.specs.declared.kinds.Holding.TheVariants as holding
+use Rattle.xm_model.specs.declared.primitive.SinkMode.{SinkMode}
+use Rattle.xm_model.specs.declared.primitive.SourceMode.{SourceMode}
 use Rattle.xm_step.specs.Roomy.{IsRoomy, IsRoomyCell, cell_at}
 use Rattle.xm_step.specs.declared.kinds.QueuePlace.{QueuePlace}
 use Rattle.xm_running.specs.Passing.{HasRoom, passed}
@@ -78,17 +82,84 @@ none_passed (cell.Held h) = refl
 none_passed (cell.Pref s) = refl
 none_passed cell.Nothing = refl
 
-module _ (ms : List Component) (old : List Cell) (φ : Signals) (queues : List QueuePlace) (others : List ℕ) (n : ℕ) (kinds : AreKindsTo ms n queues others) (roomy : IsRoomy ms old) (guarded : IsGuardedBy ms old φ) (whole : n ≡ length old) where
+-- what each kind holds goes on
+pub queue_of : (m : Component) (x : Cell) (φ : Signals) (input out : ℕ) → CanGoOn (holding.Packets input out) m x φ → (capacity : ℕ) × CanAdvance input out capacity x φ
+queue_of (Source o cs md) x φ input out can = let h = can.0 in absurd cc
+queue_of (Sink i md) x φ input out can = let h = can.0 in absurd cc
+queue_of (Queue i o cap ini) x φ input out can = let h = can.0 in let same_input : i ≡ input = cc in let same_out : o ≡ out = cc in (cap, subst (λ (c : ℕ). CanAdvance c out cap x φ) same_input (subst (λ (c : ℕ). CanAdvance i c cap x φ) same_out (can_from i o cap ini x φ can.1.0 can.1.1)))
+queue_of (Function i o t) x φ input out can = let h = can.0 in absurd cc
+queue_of (Fork i p q t u) x φ input out can = let h = can.0 in absurd cc
+queue_of (Join p q o s) x φ input out can = let h = can.0 in absurd cc
+queue_of (Switch i p q t) x φ input out can = let h = can.0 in absurd cc
+queue_of (Merge p q o) x φ input out can = let h = can.0 in absurd cc
+
+pub packets_went : (m : Component) (x y : Cell) (φ : Signals) (input out : ℕ) → CanGoOn (holding.Packets input out) m x φ →
+    ((capacity : ℕ) (initial : List ℕ) → CanAdvance input out capacity x φ → IsAdvanced (Queue input out capacity initial) x y φ) → IsAdvanced m x y φ
+packets_went (Source o cs md) x y φ input out can went = let h = can.0 in absurd cc
+packets_went (Sink i md) x y φ input out can went = let h = can.0 in absurd cc
+packets_went (Queue i o cap ini) x y φ input out can went = 
+    let h = can.0 in
+    let same_input : input ≡ i = cc in
+    let same_out : out ≡ o = cc in
+    let here : CanAdvance input out cap x φ = subst (λ (c : ℕ). CanAdvance c out cap x φ) (sym same_input) (subst (λ (c : ℕ). CanAdvance i c cap x φ) (sym same_out) (can_from i o cap ini x φ can.1.0 can.1.1)) in
+    subst (λ (c : ℕ). IsAdvanced (Queue c o cap ini) x y φ) same_input (subst (λ (c : ℕ). IsAdvanced (Queue input c cap ini) x y φ) same_out (went cap ini here))
+packets_went (Function i o t) x y φ input out can went = let h = can.0 in absurd cc
+packets_went (Fork i p q t u) x y φ input out can went = let h = can.0 in absurd cc
+packets_went (Join p q o s) x y φ input out can went = let h = can.0 in absurd cc
+packets_went (Switch i p q t) x y φ input out can went = let h = can.0 in absurd cc
+packets_went (Merge p q o) x y φ input out can went = let h = can.0 in absurd cc
+
+pub pending_went : (m : Component) (x y : Cell) (φ : Signals) (out : ℕ) (mode : SourceMode) → CanGoOn (holding.Pending out mode) m x φ → y ≡ cell.Pending (next_pending mode (φ.offer out) (φ.ready out)) → IsAdvanced m x y φ
+pending_went (Source o cs md) x y φ out mode can went = let h = can.0 in let a = ap content_of went in record { content = cc; roomy = tt; room = refl }
+pending_went (Sink i md) x y φ out mode can went = let h = can.0 in absurd cc
+pending_went (Queue i o cap ini) x y φ out mode can went = let h = can.0 in absurd cc
+pending_went (Function i o t) x y φ out mode can went = let h = can.0 in absurd cc
+pending_went (Fork i p q t u) x y φ out mode can went = let h = can.0 in absurd cc
+pending_went (Join p q o s) x y φ out mode can went = let h = can.0 in absurd cc
+pending_went (Switch i p q t) x y φ out mode can went = let h = can.0 in absurd cc
+pending_went (Merge p q o) x y φ out mode can went = let h = can.0 in absurd cc
+
+pub held_went : (m : Component) (x y : Cell) (φ : Signals) (input : ℕ) (mode : SinkMode) → CanGoOn (holding.Held input mode) m x φ → y ≡ cell.Held (next_held mode (φ.offer input) (φ.ready input)) → IsAdvanced m x y φ
+held_went (Source o cs md) x y φ input mode can went = let h = can.0 in absurd cc
+held_went (Sink i md) x y φ input mode can went = let h = can.0 in let a = ap content_of went in record { content = cc; roomy = tt; room = refl }
+held_went (Queue i o cap ini) x y φ input mode can went = let h = can.0 in absurd cc
+held_went (Function i o t) x y φ input mode can went = let h = can.0 in absurd cc
+held_went (Fork i p q t u) x y φ input mode can went = let h = can.0 in absurd cc
+held_went (Join p q o s) x y φ input mode can went = let h = can.0 in absurd cc
+held_went (Switch i p q t) x y φ input mode can went = let h = can.0 in absurd cc
+held_went (Merge p q o) x y φ input mode can went = let h = can.0 in absurd cc
+
+pub pref_went : (m : Component) (x y : Cell) (φ : Signals) (a b out : ℕ) → CanGoOn (holding.Pref a b out) m x φ → y ≡ cell.Pref (next_pref (pref_in (content_of x)) (grant (pref_in (content_of x)) (φ.offer a) (φ.offer b)) (φ.ready out)) → IsAdvanced m x y φ
+pref_went (Source o cs md) x y φ a b out can went = let h = can.0 in absurd cc
+pref_went (Sink i md) x y φ a b out can went = let h = can.0 in absurd cc
+pref_went (Queue i o cap ini) x y φ a b out can went = let h = can.0 in absurd cc
+pref_went (Function i o t) x y φ a b out can went = let h = can.0 in absurd cc
+pref_went (Fork i p q t u) x y φ a b out can went = let h = can.0 in absurd cc
+pref_went (Join p q o s) x y φ a b out can went = let h = can.0 in absurd cc
+pref_went (Switch i p q t) x y φ a b out can went = let h = can.0 in absurd cc
+pref_went (Merge p q o) x y φ a b out can went = let h = can.0 in let e = ap content_of went in record { content = cc; roomy = tt; room = refl }
+
+pub nothing_went : (m : Component) (x y : Cell) (φ : Signals) → CanGoOn holding.Nothing m x φ → y ≡ cell.Nothing → IsAdvanced m x y φ
+nothing_went (Source o cs md) x y φ can went = let h = can.0 in absurd cc
+nothing_went (Sink i md) x y φ can went = let h = can.0 in absurd cc
+nothing_went (Queue i o cap ini) x y φ can went = let h = can.0 in absurd cc
+nothing_went (Function i o t) x y φ can went = record { content = ap content_of went; roomy = tt; room = refl }
+nothing_went (Fork i p q t u) x y φ can went = record { content = ap content_of went; roomy = tt; room = refl }
+nothing_went (Join p q o s) x y φ can went = record { content = ap content_of went; roomy = tt; room = refl }
+nothing_went (Switch i p q t) x y φ can went = record { content = ap content_of went; roomy = tt; room = refl }
+nothing_went (Merge p q o) x y φ can went = let h = can.0 in absurd cc
+
+module _ (ms : List Component) (old : List Cell) (φ : Signals) (queues : List QueuePlace) (others : List Holder) (n : ℕ) (kinds : AreKindsTo ms n queues others) (roomy : IsRoomy ms old) (guarded : IsGuardedBy ms old φ) (whole : n ≡ length old) where
   queue_fresh : (k : ℕ) (it : QueuePlace) → slice_get queues k ≡ Some it → IsAmongQueues queues k it.prim → ⊥
   queue_fresh k it at among =
       let less = among.1.1.0 in
       let same = kinds.queues_once among.0 k among.1.0 it among.1.1.1.0 at among.1.1.1.1 in
       absurd (omega arith)
 
-  other_fresh : (i p : ℕ) → slice_get others i ≡ Some p → IsAmongBoth queues others i p → ⊥
-  other_fresh i p at among = elim among [
-    | inl queue ↦ kinds.apart queue.0 i p queue.1.0 queue.1.1.1.0 at queue.1.1.1.1
-    | inr other ↦ (let less = other.1.0 in let same = kinds.others_once other.0 i p other.1.1 at in absurd (omega arith))
+  other_fresh : (i : ℕ) (it : Holder) → slice_get others i ≡ Some it → IsAmongBoth queues others i it.prim → ⊥
+  other_fresh i it at among = elim among [
+    | inl queue ↦ kinds.apart queue.0 i queue.1.0 it queue.1.1.1.0 at queue.1.1.1.1
+    | inr other ↦ (let less = other.1.1.0 in let same = kinds.others_once other.0 i other.1.0 it other.1.1.1.0 at other.1.1.1.1 in absurd (omega arith))
   ]
 
   module _ (now : List Cell) (len : length now ≡ length old) (k : ℕ) (it : QueuePlace) (at : slice_get queues k ≡ Some it) (before : HaveGone ms old now φ (IsAmongQueues queues k)) where
@@ -127,37 +198,42 @@ module _ (ms : List Component) (old : List Cell) (φ : Signals) (queues : List Q
         (subst (λ (x : Cell). IsAdvanced (Queue it.input it.out is_queue.capacity is_queue.initial) x here φ) (queue_cell d) (went is_queue.capacity is_queue.initial (queue_can d).1))
         before
 
-  module _ (now : List Cell) (len : length now ≡ length old) (i p : ℕ) (at : slice_get others i ≡ Some p) (before : HaveGone ms old now φ (IsAmongBoth queues others i)) where
-    pub other_within : p < length now
-    other_within = let h = kinds.other_below i p at in omega arith
+  module _ (now : List Cell) (len : length now ≡ length old) (i : ℕ) (it : Holder) (at : slice_get others i ≡ Some it) (before : HaveGone ms old now φ (IsAmongBoth queues others i)) where
+    is_other : IsHolderAt ms it
+    is_other = (kinds.other_at i it at).0
 
-    pub other_cell : (d : Cell) → get_or now p d ≡ cell_at old p
-    other_cell d = get_or_default now p d cell.Nothing other_within ∙ before.rest p (other_fresh i p at)
+    pub other_within : it.prim < length now
+    other_within = let h = (kinds.other_at i it at).1 in omega arith
 
-    pub other_roomy : (d : Cell) (m : Component) → slice_get ms p ≡ Some m → IsRoomyCell m (get_or now p d)
-    other_roomy d m has = subst (λ (x : Cell). IsRoomyCell m x) (sym (other_cell d)) (roomy.roomy p m has)
+    other_cell : (d : Cell) → get_or now it.prim d ≡ cell_at old it.prim
+    other_cell d = get_or_default now it.prim d cell.Nothing other_within ∙ before.rest it.prim (other_fresh i it at)
 
-    pub other_guarded : (d : Cell) (m : Component) → slice_get ms p ≡ Some m → IsGuarded m (get_or now p d) φ
-    other_guarded d m has = subst (λ (x : Cell). IsGuarded m x φ) (sym (other_cell d)) (guarded.guarded p m has)
+    pub other_can : (d : Cell) → (m : Component) × CanGoOn it.holds m (get_or now it.prim d) φ
+    other_can d = (
+      is_other.prim,
+      subst (λ (x : Cell). CanGoOn it.holds is_other.prim x φ) (sym (other_cell d))
+          (is_other.holds, (roomy.roomy it.prim _ is_other.has, guarded.guarded it.prim _ is_other.has)),
+    )
 
-    pub other_gone : (d here : Cell) (m : Component) → slice_get ms p ≡ Some m → IsAdvanced m (get_or now p d) here φ → HaveGone ms old (set now p here) φ (IsAmongBoth queues others (i + 1))
-    other_gone d here m has went =
-        gone_more ms old now φ (IsAmongBoth queues others i) (IsAmongBoth queues others (i + 1)) p m here other_within has
+    pub other_gone : (d here : Cell) → ((m : Component) → CanGoOn it.holds m (get_or now it.prim d) φ → IsAdvanced m (get_or now it.prim d) here φ) → HaveGone ms old (set now it.prim here) φ (IsAmongBoth queues others (i + 1))
+    unfolding is_other other_can
+    other_gone d here went =
+        gone_more ms old now φ (IsAmongBoth queues others i) (IsAmongBoth queues others (i + 1)) it.prim is_other.prim here other_within is_other.has
         (λ q after. elim after [
           | inl queue ↦ inl (inl queue)
           | inr other ↦ elim (cases_lt other.0 i) [
-            | inl less ↦ inl (inr (other.0, (less, other.1.1)))
+            | inl less ↦ inl (inr (other.0, (other.1.0, (less, other.1.1.1))))
             | inr late ↦
-                let bound = other.1.0 in
+                let bound = other.1.1.0 in
                 let here_too : other.0 ≡ i = omega arith in
-                let there = other.1.1 in
-                let e = ap (λ (j : ℕ). slice_get others j) here_too in
-                inr (let same : q ≡ p = cc in same)
+                let there = other.1.1.1.0 in
+                let one : other.1.0 ≡ it = let e = ap (λ (j : ℕ). slice_get others j) here_too in cc in
+                inr (sym other.1.1.1.1 ∙ ap (λ (x : Holder). x.prim) one)
           ]
         ])
-        (λ q b. elim b [ inl queue ↦ inl queue | inr other ↦ inr (other.0, ((let less = other.1.0 in omega arith), other.1.1)) ])
-        (inr (i, ((omega arith), at)))
-        (subst (λ (x : Cell). IsAdvanced m x here φ) (other_cell d) went)
+        (λ q b. elim b [ inl queue ↦ inl queue | inr other ↦ inr (other.0, (other.1.0, ((let less = other.1.1.0 in omega arith), other.1.1.1))) ])
+        (inr (i, (it, ((omega arith), (at, refl)))))
+        (subst (λ (x : Cell). IsAdvanced is_other.prim x here φ) (other_cell d) (went is_other.prim (other_can d).1))
         before
 
   pub all_gone : (now : List Cell) (i : ℕ) → length now ≡ length old → length others ≤ i → n ≡ length ms → HaveGone ms old now φ (IsAmongBoth queues others i) → AllAdvance ms old now φ
@@ -167,6 +243,16 @@ module _ (ms : List Component) (old : List Cell) (φ : Signals) (queues : List Q
         let within = slice_get_within ms p m has in
         gone.gone p m (elim (kinds.whole p (omega arith)) [
           | inl queue ↦ inl (queue.0, (queue.1.0, (slice_get_within queues queue.0 queue.1.0 queue.1.1.0, queue.1.1)))
-          | inr other ↦ inr (other.0, ((let h = slice_get_within others other.0 p other.1 in omega arith), other.1))
+          | inr other ↦ inr (other.0, (other.1.0, ((let h = slice_get_within others other.0 other.1.0 other.1.1.0 in omega arith), other.1.1)))
         ]) has;
   }
+
+-- once all queues have gone, the first others follow
+pub both_from_queues : (ms : List Component) (old now : List Cell) (φ : Signals) (queues : List QueuePlace) (others : List Holder) (k : ℕ) → k ≡ length queues → HaveGone ms old now φ (IsAmongQueues queues k) →
+    HaveGone ms old now φ (IsAmongBoth queues others 0)
+both_from_queues ms old now φ queues others k all h =
+    let whole = subst (λ (n : ℕ). HaveGone ms old now φ (IsAmongQueues queues n)) all h in
+    record {
+      gone = λ p m among has. whole.gone p m (elim among [ inl queue ↦ queue | inr other ↦ absurd (let less = other.1.1.0 in omega arith) ]) has;
+      rest = λ p none. whole.rest p (λ queue. none (inl queue));
+    }

@@ -3,54 +3,58 @@ use Rattle.std.proofs.Common.{◌≡◌, ℕ, ◌+◌, List, [], ◌∷◌, ◌+
 use Rattle.std.proofs.lemmas.Bool.{cases_lt}
 use Rattle.xm_model.specs.Component.{Component}
 use Rattle.xm_order.specs.Lemmas.Items.{get-append_left, get-push_last, push_cases}
-use Rattle.xm_step.specs.Inner.Kinds.{AreKindsTo, IsQueueAt}
+use Rattle.xm_step.specs.Inner.Kinds.{AreKindsTo, IsHolderAt, IsQueueAt}
+use Rattle.xm_step.specs.declared.kinds.Holder.{Holder}
 use Rattle.xm_step.specs.declared.kinds.QueuePlace.{QueuePlace}
 
 pub none_listed : (ms : List Component) → AreKindsTo ms 0 [] []
 none_listed ms = record {
   queue_at = λ k it at. absurd cc;
-  other_below = λ k p at. absurd cc;
+  other_at = λ k it at. absurd cc;
   whole = λ p h. absurd (omega arith);
   queues_once = λ j k x y at_j at_k same. absurd cc;
-  others_once = λ j k p at_j at_k. absurd cc;
-  apart = λ j k p it at_j at_k same. absurd cc;
+  others_once = λ j k x y at_j at_k same. absurd cc;
+  apart = λ j k x y at_j at_k same. absurd cc;
 }
 
-pub other_listed : (ms : List Component) (n : ℕ) (queues : List QueuePlace) (others : List ℕ) → AreKindsTo ms n queues others → AreKindsTo ms (n + 1) queues (others ++ n ∷ [])
-other_listed ms n queues others before = record {
-  queue_at = λ k it at. let h = before.queue_at k it at in (h.0, (let b = h.1 in omega arith));
-  other_below = λ k p at. elim (push_cases others n k p at) [ inl old ↦ (let h = before.other_below k p old in omega arith) | inr new ↦ (let h = new.1 in omega arith) ];
+pub other_listed : (ms : List Component) (n : ℕ) (queues : List QueuePlace) (others : List Holder) (it : Holder) → it.prim ≡ n → IsHolderAt ms it → AreKindsTo ms n queues others → AreKindsTo ms (n + 1) queues (others ++ it ∷ [])
+other_listed ms n queues others it is_n is_holder before = record {
+  queue_at = λ k x at. let h = before.queue_at k x at in (h.0, (let b = h.1 in omega arith));
+  other_at = λ k x at. elim (push_cases others it k x at) [
+    | inl old ↦ (let h = before.other_at k x old in (h.0, (let b = h.1 in omega arith)))
+    | inr new ↦ (subst (λ (y : Holder). IsHolderAt ms y) new.1 is_holder, (let e = ap (λ (y : Holder). y.prim) new.1 in omega arith))
+  ];
   whole = λ p h. elim (cases_lt p n) [
     | inl less ↦ elim (before.whole p less) [
       | inl queue ↦ inl queue
-      | inr other ↦ inr (other.0, get-append_left others (n ∷ []) other.0 p other.1)
+      | inr other ↦ inr (other.0, (other.1.0, (get-append_left others (it ∷ []) other.0 other.1.0 other.1.1.0, other.1.1.1)))
     ]
-    | inr late ↦ (let is : n ≡ p = omega arith in inr (length others, get-push_last others n ∙ ap Some is))
+    | inr late ↦ inr (length others, (it, (get-push_last others it, (omega arith))))
   ];
   queues_once = before.queues_once;
-  others_once = λ j k p at_j at_k. elim (push_cases others n j p at_j) [
-    | inl old_j ↦ elim (push_cases others n k p at_k) [
-      | inl old_k ↦ before.others_once j k p old_j old_k
-      | inr new_k ↦ absurd (let h = before.other_below j p old_j in let e = new_k.1 in omega arith)
+  others_once = λ j k x y at_j at_k same. elim (push_cases others it j x at_j) [
+    | inl old_j ↦ elim (push_cases others it k y at_k) [
+      | inl old_k ↦ before.others_once j k x y old_j old_k same
+      | inr new_k ↦ absurd (let h = before.other_at j x old_j in let b = h.1 in let e = ap (λ (z : Holder). z.prim) new_k.1 in omega arith)
     ]
-    | inr new_j ↦ elim (push_cases others n k p at_k) [
-      | inl old_k ↦ absurd (let h = before.other_below k p old_k in let e = new_j.1 in omega arith)
-      | inr new_k ↦ (let x = new_j.0 in let y = new_k.0 in omega arith)
+    | inr new_j ↦ elim (push_cases others it k y at_k) [
+      | inl old_k ↦ absurd (let h = before.other_at k y old_k in let b = h.1 in let e = ap (λ (z : Holder). z.prim) new_j.1 in omega arith)
+      | inr new_k ↦ (let a = new_j.0 in let b = new_k.0 in omega arith)
     ]
   ];
-  apart = λ j k p it at_j at_k same. elim (push_cases others n k p at_k) [
-    | inl old ↦ before.apart j k p it at_j old same
-    | inr new ↦ (let h = before.queue_at j it at_j in let b = h.1 in let e = new.1 in absurd (omega arith))
+  apart = λ j k x y at_j at_k same. elim (push_cases others it k y at_k) [
+    | inl old ↦ before.apart j k x y at_j old same
+    | inr new ↦ (let h = before.queue_at j x at_j in let b = h.1 in let e = ap (λ (z : Holder). z.prim) new.1 in absurd (omega arith))
   ];
 }
 
-pub queue_listed : (ms : List Component) (n : ℕ) (queues : List QueuePlace) (others : List ℕ) (it : QueuePlace) → it.prim ≡ n → IsQueueAt ms it → AreKindsTo ms n queues others → AreKindsTo ms (n + 1) (queues ++ it ∷ []) others
+pub queue_listed : (ms : List Component) (n : ℕ) (queues : List QueuePlace) (others : List Holder) (it : QueuePlace) → it.prim ≡ n → IsQueueAt ms it → AreKindsTo ms n queues others → AreKindsTo ms (n + 1) (queues ++ it ∷ []) others
 queue_listed ms n queues others it is_n is_queue before = record {
   queue_at = λ k x at. elim (push_cases queues it k x at) [
     | inl old ↦ (let h = before.queue_at k x old in (h.0, (let b = h.1 in omega arith)))
     | inr new ↦ (subst (λ (y : QueuePlace). IsQueueAt ms y) new.1 is_queue, (let e = ap (λ (y : QueuePlace). y.prim) new.1 in omega arith))
   ];
-  other_below = λ k p at. let h = before.other_below k p at in omega arith;
+  other_at = λ k x at. let h = before.other_at k x at in (h.0, (let b = h.1 in omega arith));
   whole = λ p h. elim (cases_lt p n) [
     | inl less ↦ elim (before.whole p less) [
       | inl queue ↦ inl (queue.0, (queue.1.0, (get-append_left queues (it ∷ []) queue.0 queue.1.0 queue.1.1.0, queue.1.1.1)))
@@ -69,9 +73,9 @@ queue_listed ms n queues others it is_n is_queue before = record {
     ]
   ];
   others_once = before.others_once;
-  apart = λ j k p x at_j at_k same. elim (push_cases queues it j x at_j) [
-    | inl old ↦ before.apart j k p x old at_k same
-    | inr new ↦ (let h = before.other_below k p at_k in let e = ap (λ (z : QueuePlace). z.prim) new.1 in absurd (omega arith))
+  apart = λ j k x y at_j at_k same. elim (push_cases queues it j x at_j) [
+    | inl old ↦ before.apart j k x y old at_k same
+    | inr new ↦ (let h = before.other_at k y at_k in let b = h.1 in let e = ap (λ (z : QueuePlace). z.prim) new.1 in absurd (omega arith))
   ];
 }
 

@@ -1,11 +1,21 @@
-//! The queues of a net, and its other primitives.
+//! What the primitives of a net hold, with the channels and the modes by which it goes on: queues apart.
 
 ghost use Rattle.std.specs.Prelude.{◌≡◌, ◌+◌, ◌^◌, ◌<◌, length, map, slice_get, IfOk, List as Components, OnOk, Some};
 ghost use Rattle.xm_model.specs.Component.{Component, component_of};
-ghost use Rattle.xm_step.specs.Inner.Kinds.{AreKindsTo};
+ghost use Rattle.xm_step.specs.Inner.Kinds.{AreKindsTo, IsHoldingOf};
 
 use std::alloc::Global;
-use xm_model::{List, OutOfMemory, Prim};
+use xm_model::{List, OutOfMemory, Prim, SinkMode, SourceMode};
+
+/// What a primitive holds, with the channels and the mode by which it goes on.
+#[derive(Clone, Copy)]
+pub enum Holding {
+    Packets { input: u32, out: u32 },
+    Pending { out: u32, mode: SourceMode },
+    Held { input: u32, mode: SinkMode },
+    Pref { a: u32, b: u32, out: u32 },
+    Nothing,
+}
 
 /// A queue, by its number, with its two channels.
 #[derive(Clone, Copy)]
@@ -15,11 +25,46 @@ pub struct QueuePlace {
     pub out: u32,
 }
 
-/// The queues, and the numbers of all other primitives.
+/// A primitive, by its number, and what it holds.
+#[derive(Clone, Copy)]
+pub struct Holder {
+    pub prim: u32,
+    pub holds: Holding,
+}
+
+/// The queues, and all other primitives.
 #[derive(Drop)]
 pub struct Kinds {
     pub queues: List<QueuePlace>,
-    pub others: List<u32>,
+    pub others: List<Holder>,
+}
+
+/// What the primitive holds.
+pub fn holding_of(prim: &Prim) -> Holding
+    ensures { IsHoldingOf result (component_of prim.now) }
+{
+    match prim {
+        Prim::Source { out, mode, .. } => Holding::Pending {
+            out: *out,
+            mode: *mode,
+        },
+        Prim::Sink { input, mode } => Holding::Held {
+            input: *input,
+            mode: *mode,
+        },
+        Prim::Queue { input, out, .. } => Holding::Packets {
+            input: *input,
+            out: *out,
+        },
+        Prim::Merge { a, b, out } => Holding::Pref {
+            a: *a,
+            b: *b,
+            out: *out,
+        },
+        Prim::Function { .. } | Prim::Fork { .. } | Prim::Join { .. } | Prim::Switch { .. } => {
+            Holding::Nothing
+        }
+    }
 }
 
 /// Appends the primitive to its list.
@@ -34,7 +79,10 @@ fn push_kind(kinds: &mut Kinds, p: u32, prim: &Prim) -> Result<(), OutOfMemory>
             input: *input,
             out: *out,
         }),
-        _ => kinds.others.push(p),
+        _ => kinds.others.push(Holder {
+            prim: p,
+            holds: holding_of(prim),
+        }),
     }
 }
 

@@ -11,8 +11,9 @@ use itoa::Buffer;
 use std::alloc::Global;
 use std::marker::Model;
 use xm_design::Design;
-use xm_model::{Frame, List, Names, OutOfMemory, State, Text};
-use xm_step::{Evaluator, blank, step};
+use xm_model::{Frame, List, Names, OutOfMemory, Text};
+use xm_running::Running;
+use xm_step::{Evaluator, blank, step_running};
 use xm_tape::Rows;
 
 /// How often a colour moved on a channel, where it did.
@@ -98,7 +99,7 @@ impl RunText {
         evaluator: &Evaluator<'_>,
         texts: &MoveTexts,
         rows: &mut Rows<'_>,
-        state: &mut State,
+        running: &mut Running,
         frame: &mut Frame,
         digits: &[u8],
         lines: &mut Lines,
@@ -106,7 +107,7 @@ impl RunText {
         requires digits { digits.now ≡ decimal self.old.cycles }
         requires ready { AreReady texts.now }
         requires labels { length (labelled_of texts.now).channels ≡ self.old.channels }
-        requires here { IsUnderway evaluator.now.net rows.old.tape self.old state.old.cells.items }
+        requires here { IsUnderway evaluator.now.net rows.old.tape self.old running.old.slots.items }
         requires few { (c d : ℕ) → c < self.old.channels → d < self.old.colours
             → sum_at self.old.sums self.old.colours c d < 2 ^ 32 }
         requires row { rows.old.cycle ≡ self.old.cycles }
@@ -115,7 +116,7 @@ impl RunText {
         requires wires { length frame.old.wires.items ≡ evaluator.now.net.channels }
         requires room { length lines.old.items
             + (length digits.now + evaluator.now.net.channels * move_room texts.now + 1) ≤ lines.old.room }
-        ensures here { IsUnderway evaluator.now.net rows.old.tape self.new state.new.cells.items }
+        ensures here { IsUnderway evaluator.now.net rows.old.tape self.new running.new.slots.items }
         ensures lines { (names : Naming) (s : ℕ → ℕ → Content) (φ : ℕ → Signals)
             → AreLabelsOf names (labelled_of texts.now) → IsRunOf evaluator.now.net rows.old.tape s φ
             → lines.new.items ≡ lines.old.items ++ round_lines names φ self.old.cycles 1 }
@@ -125,11 +126,11 @@ impl RunText {
         ensures channels { self.new.channels ≡ self.old.channels }
         ensures colours { self.new.colours ≡ self.old.colours }
         ensures wires { length frame.new.wires.items ≡ evaluator.now.net.channels }
-        ensures rooms { SameRooms evaluator.now.net.prims state.old.cells.items state.new.cells.items }
-        ensures room { state.new.cells.room ≡ state.old.cells.room }
+        ensures rooms { SameRooms evaluator.now.net.prims running.old.slots.items running.new.slots.items }
+        ensures room { running.new.slots.room ≡ running.old.slots.room }
     {
         evaluator.design();
-        step(evaluator, state, rows.row(), frame);
+        step_running(evaluator, running, rows.row(), frame);
         lines.put_line(
             self.sums.as_mut_slice(),
             texts,
@@ -152,16 +153,16 @@ impl RunText {
         evaluator: &Evaluator<'_>,
         labels: &Labels,
         rows: &mut Rows<'_>,
-        state: &mut State,
+        running: &mut Running,
         to: u32,
         lines: &mut Lines,
     ) -> Result<(), OutOfMemory>
         requires labels { length labels.now.channels ≡ self.old.channels }
-        requires here { IsUnderway evaluator.now.net rows.old.tape self.old state.old.cells.items }
+        requires here { IsUnderway evaluator.now.net rows.old.tape self.old running.old.slots.items }
         requires row { rows.old.cycle ≡ self.old.cycles }
         requires order { self.old.cycles ≤ to }
         requires within { to ≤ cycles_of rows.old.tape }
-        ensures here { IsUnderway evaluator.now.net rows.old.tape self.new state.new.cells.items }
+        ensures here { IsUnderway evaluator.now.net rows.old.tape self.new running.new.slots.items }
         ensures lines { (names : Naming) (s : ℕ → ℕ → Content) (φ : ℕ → Signals)
             → AreLabelsOf names labels.now → IsRunOf evaluator.now.net rows.old.tape s φ
             → lines.new.items
@@ -173,8 +174,8 @@ impl RunText {
         ensures row { rows.new.cycle ≡ self.new.cycles }
         ensures channels { self.new.channels ≡ self.old.channels }
         ensures colours { self.new.colours ≡ self.old.colours }
-        ensures rooms { SameRooms evaluator.now.net.prims state.old.cells.items state.new.cells.items }
-        ensures room { state.new.cells.room ≡ state.old.cells.room }
+        ensures rooms { SameRooms evaluator.now.net.prims running.old.slots.items running.new.slots.items }
+        ensures room { running.new.slots.room ≡ running.old.slots.room }
     {
         xm_order::one_run();
         let design = evaluator.design();
@@ -185,7 +186,7 @@ impl RunText {
             let mut number = Buffer::new();
             let digits = number.format(self.cycles()).as_bytes();
             lines.reserve(digits.len() + most + 1)?;
-            self.run_cycle(evaluator, texts, rows, state, &mut frame, digits, lines);
+            self.run_cycle(evaluator, texts, rows, running, &mut frame, digits, lines);
         }
         Ok(())
     }

@@ -7,6 +7,6 @@ use Rattle.xm_trace.specs.Rounds.{IsUnderway}
 
 -- state and text are those of the tape's run after so many cycles
 pub record IsBegun (design : Designed) (tape : Taped) (run : RunSoFar) : Type 0 where
-  pub here : IsUnderway design.net tape run.text run.state.cells.items
+  pub here : IsUnderway design.net tape run.text run.running.slots.items
   pub colours : run.text.colours ≡ design.net.colours
   pub labels : length run.labels.channels ≡ design.net.channels

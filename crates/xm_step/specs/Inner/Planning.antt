@@ -7,6 +7,7 @@ use Rattle.xm_design.specs.declared.tasks.Task.{Task}
 use Rattle.xm_plan.specs.Planned.{Planned}
 use Rattle.xm_plan.specs.Schedule.{SameTasks}
 use Rattle.xm_step.specs.Inner.Kinds.{AreKindsTo}
+use Rattle.xm_step.specs.declared.kinds.Holder.{Holder}
 use Rattle.xm_step.specs.declared.kinds.QueuePlace.{QueuePlace}
 
 -- the plan is for the net's primitives and channels, and does the tasks of the design
@@ -19,6 +20,6 @@ pub record IsPlanFor (it : Designed) (plan : Planned) : Type 0 where
   pub same : SameTasks tasks plan.tasks
 
 -- what an evaluator keeps beside its design
-pub record IsEvaluatorOf (it : Designed) (plan : Planned) (queues : List QueuePlace) (others : List ℕ) : Type 0 where
+pub record IsEvaluatorOf (it : Designed) (plan : Planned) (queues : List QueuePlace) (others : List Holder) : Type 0 where
   pub planned : IsPlanFor it plan
   pub kinds : AreKindsTo it.net.prims (length it.net.prims) queues others

@@ -8,14 +8,14 @@ use Rattle.xm_trace.specs.Text.{IsTextOfRun}
 
 pub write_rounds-requires-clause-underway : goal.write_rounds-requires-clause-underway
 write_rounds-requires-clause-underway g c =
-    subst (λ (design : Designed). IsBegun design c.args.tape.now (record { state = c.in_ok-reset.field-0; text = c.in_ok-new.field-0; labels = c.in_ok-new-2.field-0; lines = c.new-4.result }))
+    subst (λ (design : Designed). IsBegun design c.args.tape.now (record { running = c.in_ok-running_of.field-0; text = c.in_ok-new.field-0; labels = c.in_ok-new-2.field-0; lines = c.new-4.result }))
     (sym c.in_ok-evaluator.ensures)
     (record {
       here = record {
         channels = c.in_ok-new.ensures.channels;
         had = λ s φ run. c.in_ok-new.ensures.had φ;
-        cells = λ s φ run p. c.in_ok-reset.ensures.state.same p ∙ sym (run.start p) ∙ ap (λ i. s i p) (sym c.in_ok-new.ensures.none);
-        roomy = c.in_ok-reset.ensures.roomy;
+        cells = λ s φ run p. c.in_ok-running_of.ensures.cells p ∙ c.in_ok-state.ensures.state.same p ∙ sym (run.start p) ∙ ap (λ i. s i p) (sym c.in_ok-new.ensures.none);
+        roomy = c.in_ok-running_of.ensures.roomy;
       };
       colours = c.in_ok-new.ensures.colours;
       labels = many_labels c.args.names.now c.in_ok-new-2.field-0 c.in_ok-new-2.ensures ∙ c.requires.channels;

@@ -1,8 +1,7 @@
-use Rattle.xm_model.specs.Views.{signals_of}
-use Rattle.xm_step.proofs.Going.{can_from}
 use Rattle.xm_step.proofs.advance.advance_cell.Goals as goal
 
-pub returns-in-Queue : goal.returns-in-Queue
-returns-in-Queue g c =
-    rw c.in-Queue.is (c.advance_queue_cell.ensures c.in-Queue.capacity c.in-Queue.initial.items
-    (can_from c.in-Queue.input c.in-Queue.out c.in-Queue.capacity c.in-Queue.initial.items (g.C.HasCell.cell c.args.cell.now) (signals_of c.args.wires.now) (rw c.in-Queue.is at c.requires.roomy) (rw c.in-Queue.is at c.requires.guarded)))
+pub advance_holding-requires : goal.advance_holding-requires
+advance_holding-requires g c = (_, (c.holding_of.ensures, (c.requires.roomy, c.requires.guarded)))
+
+pub returns : goal.returns
+returns g c = c.advance_holding.ensures _ (c.holding_of.ensures, (c.requires.roomy, c.requires.guarded))

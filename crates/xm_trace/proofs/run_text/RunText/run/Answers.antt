@@ -22,7 +22,7 @@ loop-texts-preserved c =
     let begun = c.args.self.now.cycles in
     let t = c.loop-texts.self.cycles in
     record {
-      here = subst (λ (tape : Taped). IsUnderway c.args.evaluator.now.net tape c.run_cycle.new.self c.run_cycle.new.state.cells.items) before.tape after.here;
+      here = subst (λ (tape : Taped). IsUnderway c.args.evaluator.now.net tape c.run_cycle.new.self c.run_cycle.new.running.slots.items) before.tape after.here;
       tape = after.tape ∙ before.tape;
       row = after.row;
       later = omega (arith, before.later, after.cycles);

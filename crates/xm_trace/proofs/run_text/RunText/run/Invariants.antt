@@ -15,7 +15,7 @@ decreases-loop-texts l = l.to - l.self.cycles
 -- text, state and lines are those after so many cycles
 abbrev pub invariant-loop-texts : goal.invariant-loop-texts
 invariant-loop-texts l = record {
-  here : IsUnderway l.evaluator.net l.initial.rows.tape l.self l.state.cells.items;
+  here : IsUnderway l.evaluator.net l.initial.rows.tape l.self l.running.slots.items;
   tape : l.rows.tape ≡ l.initial.rows.tape;
   row : l.rows.cycle ≡ l.self.cycles;
   later : l.initial.self.cycles ≤ l.self.cycles;
@@ -23,8 +23,8 @@ invariant-loop-texts l = record {
   channels : l.self.channels ≡ l.initial.self.channels;
   colours : l.self.colours ≡ l.initial.self.colours;
   wires : length l.frame.wires.items ≡ l.evaluator.net.channels;
-  rooms : SameRooms l.evaluator.net.prims l.initial.state.cells.items l.state.cells.items;
-  room : l.state.cells.room ≡ l.initial.state.cells.room;
+  rooms : SameRooms l.evaluator.net.prims l.initial.running.slots.items l.running.slots.items;
+  room : l.running.slots.room ≡ l.initial.running.slots.room;
   lines : (names : Naming) (s : ℕ → ℕ → Content) (φ : ℕ → Signals) → AreLabelsOf names l.labels → IsRunOf l.evaluator.net l.initial.rows.tape s φ
       → l.lines.items ≡ l.initial.lines.items ++ round_lines names φ l.initial.self.cycles (l.self.cycles - l.initial.self.cycles);
 }

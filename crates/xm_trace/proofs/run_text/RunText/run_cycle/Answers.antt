@@ -27,14 +27,14 @@ returns-clause-here c =
     let place : c.args.rows.now.cycle ≡ t = c.requires.row ∙ sym same in
     let is_row : c.row.result.now ≡ slice_index_or (rows_of c.args.rows.now.tape) t [] = c.row.ensures ∙ ap (λ (i : ℕ). slice_index_or (rows_of c.args.rows.now.tape) i []) place in
     let below : t < cycles_of c.args.rows.now.tape = omega (arith, same, c.requires.within) in
-    let wires = c.step.new.frame.wires.items in
+    let wires = c.step_running.new.frame.wires.items in
     let lent = c.as_slice.result.now in
-    let whole : length lent ≡ net.channels = ap length c.as_slice.ensures ∙ c.step.ensures.frame.whole in
+    let whole : length lent ≡ net.channels = ap length c.as_slice.ensures ∙ c.step_running.ensures.frame.whole in
     let many : c.self.inside.channels ≡ length lent = channels ∙ c.requires.here.channels ∙ sym whole in
     record {
       channels = channels ∙ c.requires.here.channels;
       had = λ s φ run.
-          let moved = moved_same net is_net c.args.rows.now.tape t below s φ run c.args.state.now.cells.items c.row.result.now wires (λ p. c.requires.here.cells s φ run p ∙ ap (λ (i : ℕ). s i p) (sym same)) is_row c.step.ensures.only c.step.ensures.frame.whole in
+          let moved = moved_same net is_net c.args.rows.now.tape t below s φ run c.args.running.now.slots.items c.row.result.now wires (λ p. c.requires.here.cells s φ run p ∙ ap (λ (i : ℕ). s i p) (sym same)) is_row c.step_running.ensures.only c.step_running.ensures.frame.whole in
           let part : cycle_moves (signals_of lent) t (length lent) ≡ round_moves φ now.channels now.cycles 1 =
           ap (λ (xs : List Wire). cycle_moves (signals_of xs) t (length xs)) c.as_slice.ensures
           ∙ moved ∙ one_round φ t net.channels
@@ -43,8 +43,8 @@ returns-clause-here c =
           (record { had = c.requires.here.had s φ run; moves = refl }) c.as_mut_slice.ensures.value part c.put_line.auto.sums
           (λ k d under within. c.put_line.ensures.sums k d (subst (λ (n : ℕ). k < n) many under) within);
       cells = λ s φ run.
-          state_goes net is_net c.args.rows.now.tape t below s φ run c.args.state.now.cells.items c.row.result.now wires (λ p. c.requires.here.cells s φ run p ∙ ap (λ (i : ℕ). s i p) (sym same)) is_row c.step.ensures.only c.step.new.state.cells.items c.step.ensures.next;
-      roomy = c.step.ensures.roomy;
+          state_goes net is_net c.args.rows.now.tape t below s φ run c.args.running.now.slots.items c.row.result.now wires (λ p. c.requires.here.cells s φ run p ∙ ap (λ (i : ℕ). s i p) (sym same)) is_row c.step_running.ensures.only c.step_running.new.running.slots.items c.step_running.ensures.next;
+      roomy = c.step_running.ensures.roomy;
     }
 
 pub returns-clause-lines : goal.returns-clause-lines
@@ -57,8 +57,8 @@ returns-clause-lines c names s φ are run =
     let place : c.args.rows.now.cycle ≡ t = c.requires.row ∙ sym same in
     let is_row : c.row.result.now ≡ slice_index_or (rows_of c.args.rows.now.tape) t [] = c.row.ensures ∙ ap (λ (i : ℕ). slice_index_or (rows_of c.args.rows.now.tape) i []) place in
     let below : t < cycles_of c.args.rows.now.tape = omega (arith, same, c.requires.within) in
-    let wires = c.step.new.frame.wires.items in
-    let moved = moved_same net is_net c.args.rows.now.tape t below s φ run c.args.state.now.cells.items c.row.result.now wires (λ p. c.requires.here.cells s φ run p ∙ ap (λ (i : ℕ). s i p) (sym same)) is_row c.step.ensures.only c.step.ensures.frame.whole in
+    let wires = c.step_running.new.frame.wires.items in
+    let moved = moved_same net is_net c.args.rows.now.tape t below s φ run c.args.running.now.slots.items c.row.result.now wires (λ p. c.requires.here.cells s φ run p ∙ ap (λ (i : ℕ). s i p) (sym same)) is_row c.step_running.ensures.only c.step_running.ensures.frame.whole in
     line_made names (labelled_of c.args.texts.now) are φ now.cycles t net.channels _ c.args.lines.now.items c.put_line.new.self.items (c.requires.labels ∙ c.requires.here.channels) same
     (ap (λ (xs : List Wire). cycle_moves (signals_of xs) t (length xs)) c.as_slice.ensures ∙ moved ∙ ap (λ (i : ℕ). cycle_moves (φ i) i net.channels) same)
     c.put_line.ensures.items

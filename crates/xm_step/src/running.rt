@@ -1,0 +1,93 @@
+//! One cycle of a state as the cycles keep it.
+
+ghost use Rattle.std.specs.Prelude.{◌≡◌, ℕ, ◌≤◌, length, map, IfOk};
+ghost use Rattle.xm_model.specs.Component.{component_of};
+ghost use Rattle.xm_model.specs.Frame.{IsFrame};
+ghost use Rattle.xm_model.specs.Next.{IsFittingState};
+ghost use Rattle.xm_model.specs.Run.{ChoicesFit};
+ghost use Rattle.xm_model.specs.Signals.{Signals};
+ghost use Rattle.xm_model.specs.Views.{IsFrameOf, IsNextOf, choice_at, content_at, signals_of};
+ghost use Rattle.xm_order.specs.OneFrame.{SameFrame};
+ghost use Rattle.xm_step.specs.Inner.Cells.{IsKept, places_in};
+ghost use Rattle.xm_step.specs.Roomy.{IsRoomy, IsRoomyCell, SameRooms};
+
+use crate::advance::advance_all;
+use crate::cycle::solve;
+use crate::evaluator::Evaluator;
+use std::alloc::Global;
+use xm_design::Design;
+use xm_model::{Cell, Choice, Frame, List, OutOfMemory, Prim, State};
+use xm_running::{HasCell, Running, Slot};
+
+/// How many places the packets of a cell of this primitive need.
+fn places_for(prim: &Prim, cell: &Cell) -> usize
+    ensures { result ≡ places_in (component_of prim.now) cell.now }
+{
+    match prim {
+        Prim::Queue { capacity, .. } => *capacity as usize,
+        _ => cell.count(),
+    }
+}
+
+/// A slot with the cell of this primitive.
+fn slot_of(alloc: Global, prim: &Prim, cell: &Cell) -> Result<Slot, OutOfMemory>
+    requires { IsRoomyCell (component_of prim.now) cell.now }
+    ensures { IfOk result (IsKept (component_of prim.now) cell.now) }
+{
+    Slot::from_cell(alloc, cell, places_for(prim, cell))
+}
+
+/// The state as the cycles keep it. It takes 40 bytes for each primitive, and one for each place of a queue.
+pub fn running_of(alloc: Global, design: &Design, state: &State) -> Result<Running, OutOfMemory>
+    requires { IsRoomy design.now.net.prims state.now.cells.items }
+    ensures cells { IfOk result (λ it. (p : ℕ) → content_at it.slots.items p ≡ content_at state.now.cells.items p) }
+    ensures roomy { IfOk result (λ it. IsRoomy design.now.net.prims it.slots.items) }
+{
+    let prims = design.net().prims().as_slice();
+    let cells = state.cells.as_slice();
+    let mut slots = List::new(alloc);
+    for p in 0..prims.len() {
+        slots.push(slot_of(alloc, &prims[p], &cells[p])?)?;
+    }
+    Ok(Running { slots })
+}
+
+/// One cycle: `frame` becomes the frame of the state, and then the state the next one. No room changes.
+pub fn step_running(
+    evaluator: &Evaluator,
+    running: &mut Running,
+    choices: &[Choice],
+    frame: &mut Frame,
+)
+    requires roomy { IsRoomy evaluator.now.net.prims running.old.slots.items }
+    requires wires { length frame.old.wires.items ≡ evaluator.now.net.channels }
+    ensures frame { IsFrameOf evaluator.now.net running.old.slots.items choices.now frame.new.wires.items }
+    ensures only { (φ : Signals)
+        → IsFrame evaluator.now.net (content_at running.old.slots.items) (choice_at evaluator.now.net.prims choices.now)
+        φ
+        → SameFrame evaluator.now.net φ (signals_of frame.new.wires.items) }
+    ensures next { IsNextOf evaluator.now.net running.old.slots.items (signals_of frame.new.wires.items)
+        running.new.slots.items }
+    ensures roomy { IsRoomy evaluator.now.net.prims running.new.slots.items }
+    ensures fitting { IsFittingState evaluator.now.net (content_at running.old.slots.items)
+        → ChoicesFit evaluator.now.net (choice_at evaluator.now.net.prims choices.now)
+        → IsFittingState evaluator.now.net (content_at running.new.slots.items) }
+    ensures rooms { SameRooms evaluator.now.net.prims running.old.slots.items running.new.slots.items }
+    ensures room { running.new.slots.room ≡ running.old.slots.room }
+    ensures wires_room { frame.new.wires.room ≡ frame.old.wires.room }
+{
+    xm_order::one_frame();
+    xm_design::fits_next();
+    evaluator.design();
+    solve(
+        evaluator,
+        running.slots.as_slice(),
+        choices,
+        frame.wires.as_mut_slice(),
+    );
+    advance_all(
+        evaluator,
+        running.slots.as_mut_slice(),
+        frame.wires.as_slice(),
+    );
+}
