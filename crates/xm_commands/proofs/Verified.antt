@@ -1,9 +1,12 @@
 -- What `verify` writes is the verdict on the document's proof, why it refuses, and what a yes is worth.
-use Rattle.std.proofs.Common.{◌≡◌, ◌<◌, ◌∙◌, ℕ, List, Result, Ok, Err, ap₂, refl, subst, sym}
+use Rattle.std.proofs.Common.{◌≡◌, ◌<◌, ◌∙◌, ℕ, List, Result, Ok, Err, Bor, ap₂, refl, subst, sym}
 use Rattle.serde_json.specs.Data.{Data}
-use Rattle.std.specs.Prelude.{Option, option_map}
+use Rattle.serde_json.specs.View.{view}
+use Rattle.serde_json.specs.declared.value.Value.{Value}
+use Rattle.std.specs.Prelude.{Option, option_copied, option_map}
 use Rattle.xm_check.specs.Break.{IsVerdict, lemma_breaks, goals_break, valid}
 use Rattle.xm_check.specs.Laws.{ProofsHold}
+use Rattle.xm_commands.proofs.Ran.{lent_value}
 use Rattle.xm_commands.specs.Inner.Prepared.{IsPrepared}
 use Rattle.xm_commands.specs.Inner.Verifying.{IsPersistFault, proof_read}
 use Rattle.xm_commands.specs.Output.{HasFlow, IsOutput, IsVerdictOf, of_verify, outcome_of, proof_of}
@@ -16,7 +19,7 @@ use Rattle.xm_commands.specs.declared.prepared.Prepared.{Prepared}
 use Rattle.xm_design.specs.Designed.{Designed}
 use Rattle.xm_flow.specs.FlowRows.{Flow}
 use Rattle.xm_lits.specs.Repeating.{IsFair, IsRepeating}
-use Rattle.xm_model.specs.Naming.{Naming}
+use Rattle.xm_model.specs.Naming.{Naming, naming_of}
 use Rattle.xm_model.specs.Net.{Network}
 use Rattle.xm_netlist.specs.Doc.{Doc}
 use Rattle.xm_persist.specs.Rights.{AllGranted, IsFirstUngranted}
@@ -25,7 +28,7 @@ use Rattle.xm_persist.specs.declared.fault.PersistFault.TheVariants as faults
 use Rattle.xm_proof.specs.Argument.{Argument}
 use Rattle.xm_proof.specs.Valid.{IsProof}
 use Rattle.xm_proof.specs.declared.verdict.Verdict.{Verdict}
-use Rattle.xm_proof_reader.specs.Known.{known_by}
+use Rattle.xm_proof_reader.specs.Known.{Known, known_by}
 use Rattle.xm_proof_reader.specs.Reading.{proof_in}
 use Rattle.xm_report.specs.Verdict.{verdict_text}
 use Rattle.xm_rows.specs.Row.{SparseRow}
@@ -33,6 +36,10 @@ use Rattle.xm_rows.specs.Row.{SparseRow}
 -- what was read of the prepared document is its proof
 pub proof_of_read : (bytes : List ℕ) (it : Prepared) (is : IsPrepared bytes it) → proof_of is.doc it.design ≡ proof_read it
 proof_of_read bytes it is = ap₂ (λ (names : Naming) (p : Option Data). proof_in (known_by it.design names) p) (sym is.names) (sym is.proof)
+
+-- what was read with what is known of the names, where the proof was lent
+pub known_read : (it : Prepared) (known : Known) (lent : Option (Bor Value)) → known ≡ known_by it.design (naming_of it.names) → option_copied lent ≡ it.proof → proof_in known (option_map (λ v. view v.now) lent) ≡ proof_read it
+known_read it known lent same copied = ap₂ proof_in same (lent_value it.proof lent copied)
 
 pub proof_found : (bytes : List ℕ) (it : Prepared) (is : IsPrepared bytes it) (argument : Argument) → proof_read it ≡ Ok argument → HasProof is.doc it.design
 proof_found bytes it is argument read = record { argument = argument; proof = proof_of_read bytes it is ∙ read }
