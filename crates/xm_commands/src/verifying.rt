@@ -17,6 +17,8 @@ ghost use Rattle.xm_proof.specs.Argument.{argument_of};
 ghost use Rattle.xm_proof.specs.Form.{IsFormed};
 ghost use Rattle.xm_json.specs.Gives.{FailsBy};
 ghost use Rattle.xm_proof_reader.specs.Gives.{path_of};
+ghost use Rattle.xm_proof_reader.specs.Known.{known_by};
+ghost use Rattle.xm_proof_reader.specs.Views.{known_of};
 
 use crate::command::Outcome;
 use crate::invariants::flow_refusal;
@@ -146,6 +148,23 @@ fn answer_proof<K: Sink>(
     }
 }
 
+/// Writes the verdict on the proof of a document that was prepared, of whose names this is known.
+fn answer_known<K: Sink>(
+    alloc: Global,
+    prepared: &Prepared,
+    known: &Known<'_>,
+    out: &mut K,
+) -> Result<Outcome, Refusal>
+    requires { known_of known.now ≡ known_by prepared.now.design (naming_of prepared.now.names) }
+    ensures { (bytes : Items ℕ) → IsPrepared bytes prepared.now
+        → HasAnswered bytes command.Verify (change K.held K.faults out.old out.new) result }
+{
+    match read_proof(alloc, known, prepared.proof.as_ref()) {
+        Ok(proof) => answer_proof(alloc, prepared, &proof, out),
+        Err(fault) => Err(form_refusal(alloc, &fault)),
+    }
+}
+
 /// Writes the verdict on the proof of a document that was prepared.
 pub fn write_verdict<K: Sink>(
     alloc: Global,
@@ -155,12 +174,8 @@ pub fn write_verdict<K: Sink>(
     ensures { (bytes : Items ℕ) → IsPrepared bytes prepared.now
         → HasAnswered bytes command.Verify (change K.held K.faults out.old out.new) result }
 {
-    let known = Known {
-        design: &prepared.design,
-        names: &prepared.names,
-    };
-    match read_proof(alloc, &known, prepared.proof.as_ref()) {
-        Ok(proof) => answer_proof(alloc, prepared, &proof, out),
-        Err(fault) => Err(form_refusal(alloc, &fault)),
+    match Known::new(alloc, &prepared.design, &prepared.names) {
+        Ok(known) => answer_known(alloc, prepared, &known, out),
+        Err(OutOfMemory) => Err(Refusal::Memory),
     }
 }

@@ -1,6 +1,8 @@
+pub mod Applied
 pub mod Building
 pub mod CellsAt
 pub mod Cut
+pub mod Differing
 pub mod FarMoving
 pub mod Filtered
 pub mod FitRows
@@ -12,6 +14,7 @@ pub mod Neighbouring
 pub mod PartOrder
 pub mod Parting
 pub mod Passing
+pub mod Placing
 pub mod Projecting
 pub mod Pushing
 pub mod Renaming

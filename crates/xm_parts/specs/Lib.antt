@@ -1,5 +1,6 @@
 pub mod Balanced
 pub mod Built
+pub mod Changing
 pub mod Copied
 pub mod Far
 pub mod Fitting

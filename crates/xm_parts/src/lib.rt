@@ -1,8 +1,11 @@
 //! Partitions of a net, what a part has of a state and a frame, and the step of one part.
 #![tactic(auto)]
 
+mod applying;
 mod balanced;
 mod build;
+mod changes;
+mod comparing;
 mod fault;
 mod given;
 mod glue;
@@ -16,6 +19,9 @@ mod parts;
 mod row;
 mod step;
 
+pub use applying::apply;
+pub use changes::{CellChange, Change, WireChange};
+pub use comparing::change;
 pub use fault::PartFault;
 pub use glue::Glue;
 pub use islands_of::islands;

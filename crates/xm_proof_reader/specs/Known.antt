@@ -2,10 +2,9 @@
 use Rattle.std.specs.Prelude.{ℕ, suc, List, [], ◌∷◌, Option, Some, None, ◌&&◌, nat_lt, nat_eq, if◌then◌else◌, slice_get}
 use Rattle.std.specs.Str.{bytes_eq}
 use Rattle.xm_design.specs.Designed.{Designed}
-use Rattle.xm_model.specs.Naming.{Naming, naming_of}
+use Rattle.xm_model.specs.Naming.{Naming}
 use Rattle.xm_model.specs.Net.{Network}
 use Rattle.xm_proof.specs.Tests.{is_queue, queue_columns}
-use Rattle.xm_proof_reader.specs.declared.known.Known as code
 
 pub record Known : Type 0 where
   pub net : Network
@@ -15,9 +14,6 @@ pub record Known : Type 0 where
 -- of a design whose primitives, channels and colours have these names
 abbrev pub known_by : Designed → Naming → Known
 known_by it names = record { net = it.net; names = names; pairs = queue_columns it }
-
-abbrev pub known_of : code.Known → Known
-known_of known = known_by known.design.now (naming_of known.names.now)
 
 -- the first place of a name among names that are counted from i on
 abbrev pub place_from : ℕ → List (List ℕ) → List ℕ → Option ℕ

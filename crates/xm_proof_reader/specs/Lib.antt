@@ -4,3 +4,4 @@ pub mod Known
 pub mod Lemmas
 pub mod Numbers
 pub mod Reading
+pub mod Views

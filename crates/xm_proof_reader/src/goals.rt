@@ -7,7 +7,7 @@ ghost use Rattle.xm_json.specs.Path.{place_of};
 ghost use Rattle.xm_model.specs.Steps.{each};
 ghost use Rattle.xm_proof.specs.Argument.{refutation_of, step_of};
 ghost use Rattle.xm_proof.specs.Form as form;
-ghost use Rattle.xm_proof_reader.specs.Known.{known_of};
+ghost use Rattle.xm_proof_reader.specs.Views.{known_of};
 ghost use Rattle.xm_proof_reader.specs.Reading as spec;
 
 use crate::known::Known;

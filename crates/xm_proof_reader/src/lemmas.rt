@@ -8,7 +8,7 @@ ghost use Rattle.xm_json.specs.Path.{place_of};
 ghost use Rattle.xm_model.specs.Steps.{each};
 ghost use Rattle.xm_proof_reader.specs.Reading as spec;
 ghost use Rattle.xm_rows.specs.Row.{Fits128, IsRow};
-ghost use Rattle.xm_proof_reader.specs.Known.{known_of};
+ghost use Rattle.xm_proof_reader.specs.Views.{known_of};
 
 use crate::found::at_place;
 use crate::known::{Known, pair_place};

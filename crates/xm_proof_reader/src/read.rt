@@ -6,7 +6,7 @@ ghost use Rattle.xm_json.specs.Gives as paths;
 ghost use Rattle.xm_proof.specs.Argument.{argument_of};
 ghost use Rattle.xm_proof.specs.Form.{IsFormed};
 ghost use Rattle.xm_proof_reader.specs.Gives.{Gives};
-ghost use Rattle.xm_proof_reader.specs.Known.{known_of};
+ghost use Rattle.xm_proof_reader.specs.Views.{known_of};
 ghost use Rattle.xm_proof_reader.specs.Reading as spec;
 
 use crate::fault::ProofFault;

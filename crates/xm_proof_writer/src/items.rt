@@ -3,7 +3,7 @@
 ghost use Rattle.std.specs.Prelude.{◌≡◌, ◌∷◌, [], IfOk, map};
 ghost use Rattle.serde_json.specs.View.{view};
 ghost use Rattle.xm_proof.specs.declared.proof.Item.TheVariants as items;
-ghost use Rattle.xm_proof_reader.specs.Known.{known_of};
+ghost use Rattle.xm_proof_reader.specs.Views.{known_of};
 ghost use Rattle.xm_proof_writer.specs.Writing as spec;
 ghost use Rattle.xm_writer.specs.Texts.{HasTexts};
 

@@ -3,7 +3,7 @@
 ghost use Rattle.std.specs.Prelude.{◌≡◌, ◌∷◌, [], IfOk, map, slice_index_or};
 ghost use Rattle.serde_json.specs.View.{view};
 ghost use Rattle.xm_flow.specs.ValidLemma.{lemma_of};
-ghost use Rattle.xm_proof_reader.specs.Known.{known_of};
+ghost use Rattle.xm_proof_reader.specs.Views.{known_of};
 ghost use Rattle.xm_proof_writer.specs.Writing as spec;
 ghost use Rattle.xm_writer.specs.Texts.{HasTexts};
 

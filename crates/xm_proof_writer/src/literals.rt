@@ -2,7 +2,7 @@
 
 ghost use Rattle.std.specs.Prelude.{◌≡◌, ◌∷◌, [], IfOk};
 ghost use Rattle.serde_json.specs.View.{view};
-ghost use Rattle.xm_proof_reader.specs.Known.{known_of};
+ghost use Rattle.xm_proof_reader.specs.Views.{known_of};
 ghost use Rattle.xm_proof_writer.specs.Writing as spec;
 ghost use Rattle.xm_writer.specs.Texts.{HasTexts};
 
@@ -19,7 +19,7 @@ pub fn channel_value(alloc: Global, known: &Known<'_>, c: u32) -> Result<Value, 
     requires { HasTexts (known_of known.now).names }
     ensures { IfOk result (λ v. view v ≡ spec.channel_data (known_of known.now) c) }
 {
-    name_value(alloc, known.names.channels.as_slice(), c as usize)
+    name_value(alloc, known.channels.names, c as usize)
 }
 
 /// The name of the colour.
@@ -27,7 +27,7 @@ pub fn colour_value(alloc: Global, known: &Known<'_>, d: u8) -> Result<Value, Ou
     requires { HasTexts (known_of known.now).names }
     ensures { IfOk result (λ v. view v ≡ spec.colour_data (known_of known.now) d) }
 {
-    name_value(alloc, known.names.colours.as_slice(), usize::from(d))
+    name_value(alloc, known.colours.names, usize::from(d))
 }
 
 /// The name of the queue.
@@ -35,7 +35,7 @@ pub fn queue_value(alloc: Global, known: &Known<'_>, q: u32) -> Result<Value, Ou
     requires { HasTexts (known_of known.now).names }
     ensures { IfOk result (λ v. view v ≡ spec.queue_data (known_of known.now) q) }
 {
-    name_value(alloc, known.names.prims.as_slice(), q as usize)
+    name_value(alloc, known.prims.names, q as usize)
 }
 
 /// A literal of a word, and a channel or a queue.

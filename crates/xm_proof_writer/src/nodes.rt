@@ -4,7 +4,7 @@ ghost use Rattle.std.specs.Prelude.{◌≡◌, IfOk, codes, map};
 ghost use Rattle.serde_json.specs.Data.{member, no_members};
 ghost use Rattle.serde_json.specs.View.{members_view, view};
 ghost use Rattle.xm_proof.specs.Argument as steps;
-ghost use Rattle.xm_proof_reader.specs.Known.{known_of};
+ghost use Rattle.xm_proof_reader.specs.Views.{known_of};
 ghost use Rattle.xm_proof_writer.specs.Writing as spec;
 ghost use Rattle.xm_writer.specs.Texts.{HasTexts};
 

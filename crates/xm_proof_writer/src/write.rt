@@ -3,7 +3,7 @@
 ghost use Rattle.std.specs.Prelude.{◌≡◌, IfOk, Ok, Some};
 ghost use Rattle.serde_json.specs.View.{view};
 ghost use Rattle.xm_proof.specs.Argument.{argument_of};
-ghost use Rattle.xm_proof_reader.specs.Known.{known_of};
+ghost use Rattle.xm_proof_reader.specs.Views.{known_of};
 ghost use Rattle.xm_proof_reader.specs.Reading.{proof_in};
 ghost use Rattle.xm_proof_writer.specs.Writable.{CanBeWritten};
 ghost use Rattle.xm_proof_writer.specs.Writing as spec;

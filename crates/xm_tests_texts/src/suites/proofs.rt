@@ -201,13 +201,20 @@ fn is_answer(answer: &Result<Proof, ProofFault>, expected: &str) -> bool {
     }
 }
 
+fn read(
+    alloc: Global,
+    design: &Design,
+    names: &Names,
+    value: Option<&Value>,
+) -> Result<Proof, ProofFault> {
+    let known = Known::new(alloc, design, names)?;
+    read_proof(alloc, &known, value)
+}
+
 fn answers(alloc: Global, design: &Design, names: &Names, text: &str, expected: &str) -> bool {
     let value = Value::from_slice(alloc, text.as_bytes());
     value.is_ok_and(|value| {
-        is_answer(
-            &read_proof(alloc, &Known { design, names }, Some(&value)),
-            expected,
-        )
+        is_answer(&read(alloc, design, names, Some(&value)), expected)
     })
 }
 
@@ -219,9 +226,7 @@ fn all_answer(alloc: Global, design: &Design, names: &Names) -> bool {
 
 fn is_worked(alloc: Global, design: &Design, names: &Names) -> bool {
     let value = Value::from_slice(alloc, WORKED.as_bytes());
-    value.is_ok_and(|value| {
-        has_worked(&read_proof(alloc, &Known { design, names }, Some(&value)))
-    })
+    value.is_ok_and(|value| { has_worked(&read(alloc, design, names, Some(&value))) })
 }
 
 fn has_worked(answer: &Result<Proof, ProofFault>) -> bool {
@@ -236,7 +241,7 @@ fn has_worked(answer: &Result<Proof, ProofFault>) -> bool {
 }
 
 fn none_is_told(alloc: Global, design: &Design, names: &Names) -> bool {
-    is_answer(&read_proof(alloc, &Known { design, names }, None), "proof")
+    is_answer(&read(alloc, design, names, None), "proof")
 }
 
 fn is_worked_of_diamond(alloc: Global) -> bool {

@@ -1,4 +1,4 @@
-use Rattle.xm_proof_reader.specs.Known.{known_of}
+use Rattle.xm_proof_reader.specs.Views.{known_of}
 use Rattle.xm_proof_reader.proofs.Rows.{rows_read}
 use Rattle.xm_proof_reader.proofs.lemmas.terms_in.Goals as goal
 

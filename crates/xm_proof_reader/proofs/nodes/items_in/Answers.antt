@@ -2,7 +2,7 @@ use Rattle.std.proofs.Common.{◌≡◌, ◌++◌, ◌∷◌, []}
 use Rattle.serde_json.specs.View.{view}
 use Rattle.xm_json.specs.Lemmas.Walk.{goes_on}
 use Rattle.xm_json.specs.Path.{place_of}
-use Rattle.xm_proof_reader.specs.Known.{known_of}
+use Rattle.xm_proof_reader.specs.Views.{known_of}
 use Rattle.xm_proof_reader.specs.Reading.{item_at}
 use Rattle.xm_proof_reader.proofs.nodes.items_in.Goals as goal
 

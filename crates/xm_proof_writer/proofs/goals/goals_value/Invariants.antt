@@ -1,7 +1,7 @@
 use Rattle.std.proofs.Common.{◌≡◌, map, take}
 use Rattle.serde_json.specs.View.{view}
 use Rattle.xm_proof.specs.Argument.{refutation_of}
-use Rattle.xm_proof_reader.specs.Known.{known_of}
+use Rattle.xm_proof_reader.specs.Views.{known_of}
 use Rattle.xm_proof_writer.specs.Writing.{goal_data}
 use Rattle.xm_proof_writer.proofs.goals.goals_value.Given as goal
 

@@ -1,6 +1,6 @@
 use Rattle.std.proofs.Common.{◌≡◌, map, take}
 use Rattle.serde_json.specs.View.{view}
-use Rattle.xm_proof_reader.specs.Known.{known_of}
+use Rattle.xm_proof_reader.specs.Views.{known_of}
 use Rattle.xm_proof_writer.specs.Writing.{item_data}
 use Rattle.xm_proof_writer.proofs.items.items_value.Given as goal
 

@@ -1,7 +1,7 @@
 use Rattle.std.proofs.Common.{◌≡◌, map, take}
 use Rattle.serde_json.specs.View.{view}
 use Rattle.xm_flow.specs.ValidLemma.{lemma_of}
-use Rattle.xm_proof_reader.specs.Known.{known_of}
+use Rattle.xm_proof_reader.specs.Views.{known_of}
 use Rattle.xm_proof_writer.specs.Writing.{lemma_data}
 use Rattle.xm_proof_writer.proofs.lemmas.lemmas_value.Given as goal
 
