@@ -7,7 +7,7 @@ use Rattle.std.proofs.lemmas.List.{get_or_default, take-take, take_all, take_mor
 use Rattle.std.proofs.lemmas.List.Elements.{All-cons, All-head, All-more, All-nil, All-tail, All-weaker}
 use Rattle.xm_flow.specs.ValidLemma.{Lemma, TestFits, flow_at, weighed, weighed_constant}
 use Rattle.xm_flow.specs.declared.invariant.Part.{Part}
-use Rattle.xm_rows.specs.Lemmas.Entries.{coefficient-append, coefficient_absent, first_coefficient, later_coefficient, other_column, own_column, rising_above, rising_tail}
+use Rattle.xm_rows.specs.Lemmas.Entries.{coefficient-append, coefficient_absent, other_column, own_at, own_column, rising_above, rising_tail}
 use Rattle.xm_rows.specs.Row.{Fits128, IsRising, SparseRow, coefficient}
 use Rattle.xm_rows.specs.declared.row.Entry.{Entry}
 use Rattle.xm_flow.specs.Inner.Testing.{AreAdded, AreWeighed, EntriesLeave, IsAdded, IsPartAdded, IsScaled, PartLeaves, PartsFit, sum_at}
@@ -26,13 +26,6 @@ none_before : (es : List Entry) (i : ℕ) (d : Entry) → IsRising es → i < le
 none_before es i d up within =
     let column = (get_or es i d).column in
     coefficient_absent (take i es) column (All-weaker (λ (f : Entry). f.column < column) (λ f. f.column ≢ column) (λ f low. omega arith) (take i es) (below_at es i d up within))
-
-own_at : (es : List Entry) (i : ℕ) (d : Entry) → IsRising es → i < length es → coefficient es (get_or es i d).column ≡ (get_or es i d).value
-own_at [] i d up within = absurd (omega arith)
-own_at (e ∷ es) zero d up within = first_coefficient e es e.column up refl
-own_at (e ∷ es) (suc i) d up within =
-    let more = rising_above e es e.column (omega arith) up i d (omega arith) in
-    later_coefficient e es (get_or es i d).column (λ is. absurd (omega arith)) ∙ own_at es i d (rising_tail e es up) (omega arith)
 
 coefficient_more : (es : List Entry) (i : ℕ) (d : Entry) (k : ℕ) → i < length es →
     coefficient (take (i + 1) es) k ≡ coefficient (take i es) k +ℤ cond (nat_eq (get_or es i d).column k) (get_or es i d).value (pos 0)

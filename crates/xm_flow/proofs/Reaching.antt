@@ -1,5 +1,5 @@
 -- Queue pairs by their number: the primitive that each belongs to, and its colour.
-use Rattle.std.proofs.Common.{◌≡◌, ◌∙◌, ℕ, zero, suc, ◌+◌, ◌<◌, ◌≤◌, List, [], ◌∷◌, ◌++◌, length, length-append, get_or, take, slice_get, option_map, Some, refl, sym, ap, subst, arith}
+use Rattle.std.proofs.Common.{◌≡◌, ◌∙◌, ℕ, zero, suc, ◌+◌, ◌<◌, ◌≤◌, List, [], ◌∷◌, ◌++◌, length, length-append, take, slice_get, option_map, Some, refl, sym, ap, subst, arith}
 use Rattle.std.proofs.lemmas.List.{take_all, take_more}
 use Rattle.std.proofs.lemmas.Option.{get_or_from_slice_get, slice_get-map}
 use Rattle.xm_colours.specs.Family.{colours_at}
@@ -8,8 +8,6 @@ use Rattle.xm_design.specs.Designed.{Designed}
 use Rattle.xm_model.specs.Component.{Component, Content}
 use Rattle.xm_model.specs.Net.{HasPrim}
 use Rattle.xm_order.specs.Lemmas.Items.{get-append_left, get-append_right}
-use Rattle.xm_rows.specs.Row.{IsRising}
-use Rattle.xm_rows.specs.declared.row.Entry.{Entry}
 use Rattle.xm_flow.specs.FlowRows.{count_of}
 use Rattle.xm_flow.specs.Holding.{count_columns, count_value, point, queue_pair_count, value_or}
 use Rattle.xm_flow.specs.Inner.Reaching.{HasPair, IsReached}
@@ -77,17 +75,3 @@ pub reached_all : (it : Designed) (p below j : ℕ) → IsReached it p below →
 reached_all it p below j reached past low within =
     let all = ap (λ (ms : List Component). length (queue_pairs (colours_at it.colours) 0 ms)) (take_all p it.net.prims past) in
     omega (arith, all, reached.number, low, within)
-
--- columns rise
-pub rising_at : (es : List Entry) (i k : ℕ) (c d : Entry) → IsRising es → i < k → k < length es → (get_or es i c).column < (get_or es k d).column
-rising_at [] i k c d rising below within = absurd (omega arith)
-rising_at (e ∷ es) i zero c d rising below within = absurd (omega arith)
-rising_at (e ∷ es) (suc i) (suc k) c d rising below within = rising_at es i k c d (tail e es rising) (omega arith) (omega arith)
-  where
-    tail : (e : Entry) (es : List Entry) → IsRising (e ∷ es) → IsRising es
-    tail e [] rising = rising
-    tail e (f ∷ es) rising = rising.1
-rising_at (e ∷ []) zero (suc k) c d rising below within = absurd (omega arith)
-rising_at (e ∷ f ∷ es) zero (suc zero) c d rising below within = rising.0
-rising_at (e ∷ f ∷ es) zero (suc (suc k)) c d rising below within =
-    let more = rising_at (f ∷ es) 0 (suc k) c d rising.1 (omega arith) (omega arith) in omega (arith, more, rising.0)

@@ -6,7 +6,7 @@ use Rattle.xm_rows.specs.declared.row.Entry.{Entry}
 use Rattle.xm_rows.specs.Points.{StaysWithin}
 use Rattle.xm_rows.specs.Lemmas.Sums.{IsSum, sum_more, sum_leaves}
 use Rattle.xm_rows.specs.Row.{IsRising}
-use Rattle.xm_flow.proofs.Reaching.{rising_at}
+use Rattle.xm_rows.specs.Lemmas.Entries.{rising_at}
 use Rattle.xm_flow.specs.Holding.{count_columns, count_value, point}
 use Rattle.xm_flow.proofs.evaluate.value.Goals as goal
 
