@@ -112,44 +112,33 @@ literal_member known path k d = required (literal_at known) (member_of path k) k
 
 -- ---- items of a sum
 
-unfoldable pub lemma_item : Path → Data → Data → Result Item Path
-lemma_item path second third = do
-  k ← small_number_at most_places (place_of path 1) second
-  n ← number_at (place_of path 2) third
-  Ok (item.Lemma k n)
-
-unfoldable pub cap_item : Known → Path → Data → Data → Result Item Path
-cap_item known path second third = do
-  q ← queue_at known (place_of path 1) second
-  n ← number_at (place_of path 2) third
-  Ok (item.Cap q n)
-
-unfoldable pub path_item : Known → Path → Data → Data → Result Item Path
-path_item known path second third = do
-  l ← literal_at known (place_of path 1) second
-  n ← number_at (place_of path 2) third
-  Ok (item.Path l n)
-
 -- of three: a word, a lemma's place, a queue or a literal, and a number
 unfoldable pub short_item : Known → Path → Data → Data → Data → Result Item Path
 short_item known path first second third = do
   word ← text_at path first
-  if bytes_eq word (codes "lemma") then lemma_item path second third
-      else (if bytes_eq word (codes "cap") then cap_item known path second third
-      else (if bytes_eq word (codes "path") then path_item known path second third
+  if bytes_eq word (codes "lemma") then (do
+    k ← small_number_at most_places (place_of path 1) second
+    n ← number_at (place_of path 2) third
+    Ok (item.Lemma k n))
+      else (if bytes_eq word (codes "cap") then (do
+        q ← queue_at known (place_of path 1) second
+        n ← number_at (place_of path 2) third
+        Ok (item.Cap q n))
+      else (if bytes_eq word (codes "path") then (do
+        l ← literal_at known (place_of path 1) second
+        n ← number_at (place_of path 2) third
+        Ok (item.Path l n))
       else Err path))
-
-unfoldable pub low_item : Known → Path → Data → Data → Data → Result Item Path
-low_item known path second third fourth = do
-  pair ← queue_and_colour known path 1 second third
-  n ← number_at (place_of path 3) fourth
-  Ok (item.Low pair.0 pair.1 n)
 
 -- of four: a word, a queue, a colour and a number
 unfoldable pub long_item : Known → Path → Data → Data → Data → Data → Result Item Path
 long_item known path first second third fourth = do
   word ← text_at path first
-  if bytes_eq word (codes "low") then low_item known path second third fourth else Err path
+  if bytes_eq word (codes "low") then (do
+    pair ← queue_and_colour known path 1 second third
+    n ← number_at (place_of path 3) fourth
+    Ok (item.Low pair.0 pair.1 n))
+      else Err path
 
 abbrev pub item_of_items : Known → Path → List Data → Result Item Path
 item_of_items known path [] = Err path

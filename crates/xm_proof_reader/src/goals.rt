@@ -13,7 +13,7 @@ ghost use Rattle.xm_proof_reader.specs.Reading as spec;
 use crate::known::Known;
 use crate::lists::items_member;
 use crate::literals::literal_member;
-use crate::nodes::node_at_place;
+use crate::nodes::node_at;
 use serde_json::Value;
 use std::alloc::Global;
 use xm_json::{PathFault, member_path, member_text, only, place_path};
@@ -33,7 +33,8 @@ fn nodes_in(
 {
     let mut nodes = List::new(alloc);
     for (place, value) in values.iter().enumerate() {
-        let node = node_at_place(alloc, known, path, place, value)?;
+        let further = place_path(alloc, path, place)?;
+        let node = node_at(alloc, known, further.as_str(), value)?;
         nodes.push(node)?;
     }
     Ok(nodes)
@@ -113,21 +114,6 @@ fn goal_at(alloc: Global, known: &Known<'_>, path: &str, value: &Value) -> Resul
     Ok(Goal { lit, tree })
 }
 
-/// The goal at a place of the list at `path`.
-fn goal_at_place(
-    alloc: Global,
-    known: &Known<'_>,
-    path: &str,
-    place: usize,
-    value: &Value,
-) -> Result<Goal, PathFault>
-    ensures { Gives refutation_of result
-        (spec.goal_at (known_of known.now) (place_of path.now place) (view value.now)) }
-{
-    let path = place_path(alloc, path, place)?;
-    goal_at(alloc, known, path.as_str(), value)
-}
-
 /// The goals of the list at `path`.
 fn goals_at(
     alloc: Global,
@@ -140,7 +126,8 @@ fn goals_at(
 {
     let mut goals = List::new(alloc);
     for (place, value) in values.iter().enumerate() {
-        let goal = goal_at_place(alloc, known, path, place, value)?;
+        let further = place_path(alloc, path, place)?;
+        let goal = goal_at(alloc, known, further.as_str(), value)?;
         goals.push(goal)?;
     }
     Ok(goals)

@@ -17,48 +17,6 @@ use xm_json::{PathFault, list_at, text_at};
 use xm_model::Text;
 use xm_proof::Item;
 
-#[tactic(auto, unfolding(crate::specs::Reading::lemma_item))]
-fn lemma_item(alloc: Global, path: &str, second: &Value, third: &Value) -> Result<Item, PathFault>
-    ensures { Gives (λ i. i) result
-        (spec.lemma_item path.now (view second.now) (view third.now)) }
-{
-    let place = place_at_place(alloc, path, 1, second)?;
-    let number = at_place(alloc, path, 2, number_in(third))?;
-    Ok(Item::Lemma(place, number))
-}
-
-#[tactic(auto, unfolding(crate::specs::Reading::cap_item))]
-fn cap_item(
-    alloc: Global,
-    known: &Known<'_>,
-    path: &str,
-    second: &Value,
-    third: &Value,
-) -> Result<Item, PathFault>
-    ensures { Gives (λ i. i) result
-        (spec.cap_item (known_of known.now) path.now (view second.now) (view third.now)) }
-{
-    let q = at_place(alloc, path, 1, queue_in(known, second))?;
-    let number = at_place(alloc, path, 2, number_in(third))?;
-    Ok(Item::Cap(q, number))
-}
-
-#[tactic(auto, unfolding(crate::specs::Reading::path_item))]
-fn path_item(
-    alloc: Global,
-    known: &Known<'_>,
-    path: &str,
-    second: &Value,
-    third: &Value,
-) -> Result<Item, PathFault>
-    ensures { Gives (λ i. i) result
-        (spec.path_item (known_of known.now) path.now (view second.now) (view third.now)) }
-{
-    let lit = literal_at_place(alloc, known, path, 1, second)?;
-    let number = at_place(alloc, path, 2, number_in(third))?;
-    Ok(Item::Path(lit, number))
-}
-
 /// An item of three: a word, a lemma's place, a queue or a literal, and a number.
 #[tactic(auto, unfolding(crate::specs::Reading::short_item))]
 fn short_item(
@@ -73,28 +31,23 @@ fn short_item(
         (spec.short_item (known_of known.now) path.now (view first.now) (view second.now) (view third.now)) }
 {
     match text_at(alloc, path, first)? {
-        "lemma" => lemma_item(alloc, path, second, third),
-        "cap" => cap_item(alloc, known, path, second, third),
-        "path" => path_item(alloc, known, path, second, third),
+        "lemma" => {
+            let place = place_at_place(alloc, path, 1, second)?;
+            let number = at_place(alloc, path, 2, number_in(third))?;
+            Ok(Item::Lemma(place, number))
+        }
+        "cap" => {
+            let q = at_place(alloc, path, 1, queue_in(known, second))?;
+            let number = at_place(alloc, path, 2, number_in(third))?;
+            Ok(Item::Cap(q, number))
+        }
+        "path" => {
+            let lit = literal_at_place(alloc, known, path, 1, second)?;
+            let number = at_place(alloc, path, 2, number_in(third))?;
+            Ok(Item::Path(lit, number))
+        }
         _ => Err(PathFault::Broken(Text::from_bytes(alloc, path.as_bytes())?)),
     }
-}
-
-#[tactic(auto, unfolding(crate::specs::Reading::low_item))]
-fn low_item(
-    alloc: Global,
-    known: &Known<'_>,
-    path: &str,
-    second: &Value,
-    third: &Value,
-    fourth: &Value,
-) -> Result<Item, PathFault>
-    ensures { Gives (λ i. i) result
-        (spec.low_item (known_of known.now) path.now (view second.now) (view third.now) (view fourth.now)) }
-{
-    let (q, d) = queue_and_colour(alloc, known, path, 1, second, third)?;
-    let number = at_place(alloc, path, 3, number_in(fourth))?;
-    Ok(Item::Low(q, d, number))
 }
 
 /// An item of four: a word, a queue, a colour and a number.
@@ -112,7 +65,11 @@ fn long_item(
         (spec.long_item (known_of known.now) path.now (view first.now) (view second.now) (view third.now) (view fourth.now)) }
 {
     match text_at(alloc, path, first)? {
-        "low" => low_item(alloc, known, path, second, third, fourth),
+        "low" => {
+            let (q, d) = queue_and_colour(alloc, known, path, 1, second, third)?;
+            let number = at_place(alloc, path, 3, number_in(fourth))?;
+            Ok(Item::Low(q, d, number))
+        }
         _ => Err(PathFault::Broken(Text::from_bytes(alloc, path.as_bytes())?)),
     }
 }

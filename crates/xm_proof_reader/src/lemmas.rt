@@ -63,19 +63,6 @@ fn part_at(
     Ok(part)
 }
 
-fn part_at_place(
-    alloc: Global,
-    path: &str,
-    place: usize,
-    before: &Option<Part>,
-    value: &Value,
-) -> Result<Part, PathFault>
-    ensures { Gives (λ p. p) result (spec.part_at (place_of path.now place) before.now (view value.now)) }
-{
-    let path = place_path(alloc, path, place)?;
-    part_at(alloc, path.as_str(), before, value)
-}
-
 /// The parts of the list at `path`, whose flow rows rise.
 fn parts_in(alloc: Global, path: &str, values: &[Value]) -> Result<List<Part>, PathFault>
     ensures { Gives (λ parts. parts.items) result
@@ -84,7 +71,8 @@ fn parts_in(alloc: Global, path: &str, values: &[Value]) -> Result<List<Part>, P
     let mut parts = List::new(alloc);
     let mut before: Option<Part> = None;
     for (place, value) in values.iter().enumerate() {
-        let part = part_at_place(alloc, path, place, &before, value)?;
+        let further = place_path(alloc, path, place)?;
+        let part = part_at(alloc, further.as_str(), &before, value)?;
         parts.push(part)?;
         before = Some(part);
     }
@@ -160,21 +148,6 @@ fn term_at(
     Ok(entry)
 }
 
-fn term_at_place(
-    alloc: Global,
-    known: &Known<'_>,
-    path: &str,
-    place: usize,
-    before: &Option<Entry>,
-    value: &Value,
-) -> Result<Entry, PathFault>
-    ensures { Gives (λ e. e) result
-        (spec.term_at (known_of known.now) (place_of path.now place) before.now (view value.now)) }
-{
-    let path = place_path(alloc, path, place)?;
-    term_at(alloc, known, path.as_str(), before, value)
-}
-
 /// The entries of the list at `path`, whose columns rise.
 fn entries_in(
     alloc: Global,
@@ -189,7 +162,8 @@ fn entries_in(
     let mut entries = List::new(alloc);
     let mut before: Option<Entry> = None;
     for (place, value) in values.iter().enumerate() {
-        let entry = term_at_place(alloc, known, path, place, &before, value)?;
+        let further = place_path(alloc, path, place)?;
+        let entry = term_at(alloc, known, further.as_str(), &before, value)?;
         entries.push(entry)?;
         before = Some(entry);
     }
@@ -235,20 +209,6 @@ fn lemma_at(
     Ok(Invariant { row, scale, parts })
 }
 
-fn lemma_at_place(
-    alloc: Global,
-    known: &Known<'_>,
-    path: &str,
-    place: usize,
-    value: &Value,
-) -> Result<Invariant, PathFault>
-    ensures { Gives lemma_of result
-        (spec.lemma_at (known_of known.now) (place_of path.now place) (view value.now)) }
-{
-    let path = place_path(alloc, path, place)?;
-    lemma_at(alloc, known, path.as_str(), value)
-}
-
 /// The lemmas of the list at `path`.
 fn lemmas_at(
     alloc: Global,
@@ -261,7 +221,8 @@ fn lemmas_at(
 {
     let mut lemmas = List::new(alloc);
     for (place, value) in values.iter().enumerate() {
-        let lemma = lemma_at_place(alloc, known, path, place, value)?;
+        let further = place_path(alloc, path, place)?;
+        let lemma = lemma_at(alloc, known, further.as_str(), value)?;
         lemmas.push(lemma)?;
     }
     Ok(lemmas)

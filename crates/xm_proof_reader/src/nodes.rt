@@ -199,20 +199,6 @@ fn open_in(alloc: Global, path: &str, node: &Value) -> Result<Node, PathFault>
     Ok(Node::Open)
 }
 
-fn item_at_place(
-    alloc: Global,
-    known: &Known<'_>,
-    path: &str,
-    place: usize,
-    value: &Value,
-) -> Result<Item, PathFault>
-    ensures { Gives (λ i. i) result
-        (spec.item_at (known_of known.now) (place_of path.now place) (view value.now)) }
-{
-    let path = place_path(alloc, path, place)?;
-    item_at(alloc, known, path.as_str(), value)
-}
-
 /// The items of the list at `path`.
 fn items_in(
     alloc: Global,
@@ -225,7 +211,8 @@ fn items_in(
 {
     let mut items = List::new(alloc);
     for (place, value) in values.iter().enumerate() {
-        let item = item_at_place(alloc, known, path, place, value)?;
+        let further = place_path(alloc, path, place)?;
+        let item = item_at(alloc, known, further.as_str(), value)?;
         items.push(item)?;
     }
     Ok(items)
@@ -263,7 +250,12 @@ fn has(key: &str, node: &Value) -> bool
 
 /// The node at `path`, whose form is that of the first member that it has.
 #[tactic(auto, unfolding(crate::specs::Reading::node_at))]
-fn node_at(alloc: Global, known: &Known<'_>, path: &str, node: &Value) -> Result<Node, PathFault>
+pub fn node_at(
+    alloc: Global,
+    known: &Known<'_>,
+    path: &str,
+    node: &Value,
+) -> Result<Node, PathFault>
     ensures { Gives step_of result (spec.node_at (known_of known.now) path.now (view node.now)) }
 {
     if has("cite", node) {
@@ -285,19 +277,4 @@ fn node_at(alloc: Global, known: &Known<'_>, path: &str, node: &Value) -> Result
         return sum_in(alloc, known, path, node);
     }
     Err(PathFault::Broken(Text::from_bytes(alloc, path.as_bytes())?))
-}
-
-/// The node at a place of the list at `path`.
-pub fn node_at_place(
-    alloc: Global,
-    known: &Known<'_>,
-    path: &str,
-    place: usize,
-    node: &Value,
-) -> Result<Node, PathFault>
-    ensures { Gives step_of result
-        (spec.node_at (known_of known.now) (place_of path.now place) (view node.now)) }
-{
-    let path = place_path(alloc, path, place)?;
-    node_at(alloc, known, path.as_str(), node)
 }

@@ -17,8 +17,8 @@ use Rattle.xm_proof.specs.Argument.{Cite, Clash, Eager, Open, Split, Step, Sum}
 use Rattle.xm_proof.specs.declared.proof.Item.{Item}
 use Rattle.xm_proof.specs.declared.proof.Item.TheVariants as item
 use Rattle.xm_proof_reader.specs.Known.{Known}
-use Rattle.xm_proof_reader.specs.Reading.{cap_item, channel_and_colour, cite_in, clash_in, eager_in, item_at, items_at, items_member, lemma_item, literal_at, literal_member, long_item, long_literal, low_item}
-use Rattle.xm_proof_reader.specs.Reading.{node_at, open_in, path_item, queue_and_colour, rule_of, short_item, short_literal, split_in, split_plain, split_via, sum_in, sum_items}
+use Rattle.xm_proof_reader.specs.Reading.{channel_and_colour, cite_in, clash_in, eager_in, item_at, items_at, items_member, literal_at, literal_member, long_item, long_literal}
+use Rattle.xm_proof_reader.specs.Reading.{node_at, open_in, queue_and_colour, rule_of, short_item, short_literal, split_in, split_plain, split_via, sum_in, sum_items}
 use Rattle.xm_proof_writer.specs.Writable.{HasNames, IsItemOf, IsLiteralOf, IsPlace, IsStepOf}
 use Rattle.xm_proof_writer.specs.Writing.{item_data, list_data, literal_data, rule_name, step_data}
 use Rattle.xm_proof_writer.proofs.Numbers.{number_again, place_again}
@@ -79,7 +79,7 @@ module _ (known : Known) (names : HasNames known) where
   literal_again path (Lacks q d) is = rw (names.queues q is.0, names.colours d is.1) refl
 
   pub item_again : (path : Path) (i : Item) → IsItemOf known i → item_at known path (item_data known i) ≡ Ok i
-  unfolding item_at short_item long_item lemma_item cap_item path_item low_item queue_and_colour
+  unfolding item_at short_item long_item queue_and_colour
   item_again path (item.Lemma k n) is = rw (place_again (place_of path 1) k is.0, number_again (place_of path 2) n is.1) refl
   item_again path (item.Cap q n) is = rw (names.queues q is.0, number_again (place_of path 2) n is.1) refl
   item_again path (item.Low q d n) is = rw (names.queues q is.0, names.colours d is.1, number_again (place_of path 3) n is.2) refl

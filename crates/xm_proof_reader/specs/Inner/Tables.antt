@@ -1,6 +1,5 @@
 -- Tables of names.
 use Rattle.std.specs.Prelude.{◌≡◌, ℕ, List, String}
-use Rattle.std.specs.declared.alloc.Global.{Global}
 use Rattle.std.specs.HashMap.{HashMap, get_by_text}
 use Rattle.std.specs.Str.{IsUtf8}
 use Rattle.xm_proof_reader.specs.Known.{place_from}

@@ -12,4 +12,4 @@ pub loop-place-preserved : goal.loop-place-preserved
 loop-place-preserved c =
     let e : map refutation_of c.push.new.self.items ≡ map refutation_of c.loop-place.goals.items ++ refutation_of c.in_ok-goal.goal ∷ [] = rw c.in_ok-push.ensures.ok (map_push _ c.loop-place.goals.items c.in_ok-goal.goal) in
     rw e (goes_on view (λ i x. goal_at (known_of c.args.known.now) (place_of c.args.path.now i) x) _ c.args.values.now c.loop-place.place c.loop-place.place
-    c.index-values-place.result _ _ c.loop-place-test.true c.index-values-place.is c.in_ok-goal.ensures c.loop-place.invariant)
+    c.index-values-place.result _ _ c.loop-place-test.true c.index-values-place.is (rw (c.as_str.ensures.value, c.in_ok-further.ensures) at c.in_ok-goal.ensures) c.loop-place.invariant)

@@ -12,4 +12,4 @@ pub loop-place-preserved : goal.loop-place-preserved
 loop-place-preserved c =
     let e : map lemma_of c.push.new.self.items ≡ map lemma_of c.loop-place.lemmas.items ++ lemma_of c.in_ok-lemma.lemma ∷ [] = rw c.in_ok-push.ensures.ok (map_push _ c.loop-place.lemmas.items c.in_ok-lemma.lemma) in
     rw e (goes_on view (λ i x. lemma_at (known_of c.args.known.now) (place_of c.args.path.now i) x) _ c.args.values.now c.loop-place.place c.loop-place.place
-    c.index-values-place.result _ _ c.loop-place-test.true c.index-values-place.is c.in_ok-lemma.ensures c.loop-place.invariant)
+    c.index-values-place.result _ _ c.loop-place-test.true c.index-values-place.is (rw (c.as_str.ensures.value, c.in_ok-further.ensures) at c.in_ok-lemma.ensures) c.loop-place.invariant)

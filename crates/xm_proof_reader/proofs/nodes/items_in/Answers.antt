@@ -10,4 +10,4 @@ pub loop-place-preserved : goal.loop-place-preserved
 loop-place-preserved c =
     let e : c.push.new.self.items ≡ c.loop-place.items.items ++ c.in_ok-item.item ∷ [] = c.in_ok-push.ensures.ok in
     rw e (goes_on view (λ i x. item_at (known_of c.args.known.now) (place_of c.args.path.now i) x) _ c.args.values.now c.loop-place.place c.loop-place.place
-    c.index-values-place.result _ _ c.loop-place-test.true c.index-values-place.is c.in_ok-item.ensures c.loop-place.invariant)
+    c.index-values-place.result _ _ c.loop-place-test.true c.index-values-place.is (rw (c.as_str.ensures.value, c.in_ok-further.ensures) at c.in_ok-item.ensures) c.loop-place.invariant)
