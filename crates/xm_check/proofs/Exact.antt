@@ -1,19 +1,23 @@
 -- A proof has no break exactly where it is valid.
-use Rattle.std.proofs.Common.{◌≡◌, ℕ, zero, suc, ◌+◌, Option, Some, None, Result, Ok, Err, List, [], ◌∷◌, ◌++◌, length, length-append, slice_get, Bool, true, false, not, ◌&&◌, nat_eq, refl, sym, ◌∙◌, ap, subst, arith, pos, negsuc, ℤ, ◌≤ℤ◌, ◌<◌, take, inl, inr}
+use Rattle.std.proofs.Common.{◌≡◌, ℕ, zero, suc, ◌+◌, Option, Some, None, Result, Ok, Err, List, [], ◌∷◌, ◌++◌, length, length-append, slice_get, All, Bool, true, false, not, ◌&&◌, nat_eq, refl, sym, ◌∙◌, ap, subst, arith, pos, negsuc, ℤ, ◌≤ℤ◌, ◌<◌, take, inl, inr}
 use Rattle.std.specs.Prelude.{⊤}
 use Rattle.std.proofs.lemmas.Int.{ints}
-use Rattle.std.proofs.lemmas.Bool.{and_parts, and_from, cases_lt, eq-eqb, eqb-true}
-use Rattle.xm_check.specs.Break.{IsFirstLemmaBreak, IsVerdict, LemmaBreaks, differs, goals_break, leaves, lemma_breaks, not_positive, out_of_range, valid, at_place, clash_test, goals_and_trees_test, goals_test, item_test, items_test, some_on_path, step_test, steps_test, sum_test, trees_test}
+use Rattle.std.proofs.lemmas.List.Elements.{All-head, All-tail}
+use Rattle.std.proofs.lemmas.Bool.{and_parts, cases_lt, eq-eqb, eqb-true}
+use Rattle.xm_check.specs.Break.{IsFirstLemmaBreak, IsVerdict, LemmaBreaks, differs, goals_break, leaves, lemma_breaks, not_positive, out_of_range, valid, at_place, clash_test, goals_and_trees_test, goals_test, pairs_test, item_test, items_test, some_on_path, step_test, steps_test, sum_test, trees_test}
 use Rattle.xm_check.specs.Laws.{OneVerdict}
-use Rattle.xm_check.specs.Lemmas.Trees.{AreTrees, EachOneTree, kids_of}
+use Rattle.xm_check.proofs.Same.{same_break_of, same_goals_and_trees}
 use Rattle.xm_colours.specs.Family.{colours_at}
 use Rattle.xm_design.specs.Designed.{Designed}
 use Rattle.xm_flow.specs.ValidLemma.{Lemma}
 use Rattle.xm_lits.specs.Clashes.{is_offered, are_opposed, is_outside}
 use Rattle.xm_lits.specs.Inference.{idle_all, rules_of}
 use Rattle.xm_lits.specs.declared.literal.Lit.{Lit}
+use Rattle.xm_model.specs.Net.{Network}
+use Rattle.xm_order.specs.declared.signal.Signal.{Signal}
 use Rattle.xm_model.specs.Steps.{◌>>=◌, check, demand}
 use Rattle.xm_proof.specs.Argument.{Argument, Cite, Clash, Eager, Open, Refutation, Split, Step, Sum, literals}
+use Rattle.xm_proof.specs.Form.{are_trees, kids_of}
 use Rattle.xm_proof.specs.Sums.{Sums, add_row, all_zero, is_positive, no_sums}
 use Rattle.xm_lits.specs.Paths.{are_on_path, is_on_path}
 use Rattle.xm_proof.specs.Tests.{find_rule, longer, move_columns, queue_columns}
@@ -176,16 +180,16 @@ module _ (it : Designed) where
     step_unbroken before path (Cite k) paths is = rw (is.0.earlier) (rw (is.0.here) (ap Ok (sym is.1)))
     step_unbroken before path Open paths is = absurd is
 
-    steps_valid : (before : List Lit) (k i : ℕ) (steps : List Step) (paths : List (List Lit)) (x : ⊤) → AreTrees (length paths) steps →
+    steps_valid : (before : List Lit) (k i : ℕ) (steps : List Step) (paths : List (List Lit)) (x : ⊤) → are_trees (length paths) steps ≡ true →
         steps_test it lemmas before k i steps paths ≡ Ok x → AllRefuted it lemmas before steps paths
     steps_valid before k i [] [] x trees h = tt
-    steps_valid before k i [] (path ∷ paths) x trees h = trees
-    steps_valid before k i (step ∷ steps) [] x trees h = trees
+    steps_valid before k i [] (path ∷ paths) x trees h = absurd cc
+    steps_valid before k i (step ∷ steps) [] x trees h = absurd cc
     steps_valid before k i (step ∷ steps) (path ∷ paths) x trees h =
         let a = parts (at_place (place.Node k i) (step_test it lemmas before path step)) _ x h in
         let b = step_valid before path step a.0 (placed (place.Node k i) (step_test it lemmas before path step) a.0 a.1.0) in
         let count : kids_of step + length paths ≡ length (a.0 ++ paths) = sym (length-append a.0 paths ∙ ap (λ (n : ℕ). n + length paths) b.1) in
-        (a.0, (b.0, steps_valid before k (suc i) steps (a.0 ++ paths) x (subst (λ (n : ℕ). AreTrees n steps) count trees) a.1.1))
+        (a.0, (b.0, steps_valid before k (suc i) steps (a.0 ++ paths) x (subst (λ (n : ℕ). are_trees n steps ≡ true) count trees) a.1.1))
 
     steps_unbroken : (before : List Lit) (k i : ℕ) (steps : List Step) (paths : List (List Lit)) → AllRefuted it lemmas before steps paths → steps_test it lemmas before k i steps paths ≡ Ok tt
     steps_unbroken before k i [] [] all = refl
@@ -194,27 +198,28 @@ module _ (it : Designed) where
     steps_unbroken before k i (step ∷ steps) (path ∷ paths) all =
         rw (step_unbroken before path step all.0 all.1.0) (steps_unbroken before k (suc i) steps (all.0 ++ paths) all.1.1)
 
-    trees_valid : (before : List Lit) (k : ℕ) (gs : List Refutation) (x : ⊤) → EachOneTree gs → trees_test it lemmas before k gs ≡ Ok x → GoalsRefuted it lemmas before gs
+    trees_valid : (before : List Lit) (k : ℕ) (gs : List Refutation) (x : ⊤) → All (λ g. are_trees 1 g.steps ≡ true) gs → trees_test it lemmas before k gs ≡ Ok x → GoalsRefuted it lemmas before gs
     trees_valid before k [] x trees h = tt
     trees_valid before k (g ∷ gs) x trees h =
         let a = parts (steps_test it lemmas before k 0 g.steps ((g.lit ∷ []) ∷ [])) _ x h in
-        (steps_valid before k 0 g.steps ((g.lit ∷ []) ∷ []) a.0 trees.0 a.1.0, trees_valid (before ++ g.lit ∷ []) (suc k) gs x trees.1 a.1.1)
+        let T : Refutation → Type 0 = λ f. are_trees 1 f.steps ≡ true in
+        (steps_valid before k 0 g.steps ((g.lit ∷ []) ∷ []) a.0 (All-head T g gs trees) a.1.0, trees_valid (before ++ g.lit ∷ []) (suc k) gs x (All-tail T g gs trees) a.1.1)
 
     trees_unbroken : (before : List Lit) (k : ℕ) (gs : List Refutation) → GoalsRefuted it lemmas before gs → trees_test it lemmas before k gs ≡ Ok tt
     trees_unbroken before k [] all = refl
     trees_unbroken before k (g ∷ gs) all =
         rw (steps_unbroken before k 0 g.steps ((g.lit ∷ []) ∷ []) all.0) (trees_unbroken (before ++ g.lit ∷ []) (suc k) gs all.1)
 
-  proof_valid : (rows : List SparseRow) (p : Argument) (x : ⊤) → EachOneTree p.goals → AreLemmas it rows p.lemmas →
+  pub proof_valid : (rows : List SparseRow) (p : Argument) (x : ⊤) → All (λ g. are_trees 1 g.steps ≡ true) p.goals → AreLemmas it rows p.lemmas →
       goals_and_trees_test it p ≡ Ok x → IsProof it rows p
   proof_valid rows p x trees lemmas h =
-      let b = parts (goals_test it [] 0 (literals p.goals)) _ x h in
-      let c = parts (check (all_goals (literals p.goals) (move_columns it)) (place.Goals, reason.Missing)) _ x b.1.1 in
+      let a = parts (pairs_test it p.goals) _ x h in
+      let b = parts (goals_test it [] 0 (literals p.goals)) _ a.0 a.1.0 in
       record {
         lemmas = lemmas;
         goals = goals_valid [] 0 (literals p.goals) b.0 b.1.0;
-        complete = checked (all_goals (literals p.goals) (move_columns it)) (place.Goals, reason.Missing) c.0 c.1.0;
-        refuted = trees_valid p.lemmas [] 0 p.goals x trees c.1.1;
+        complete = checked (all_goals (literals p.goals) (move_columns it)) (place.Goals, reason.Missing) a.0 b.1.1;
+        refuted = trees_valid p.lemmas [] 0 p.goals x trees a.1.1;
       }
 
   proof_unbroken : (rows : List SparseRow) (p : Argument) → IsProof it rows p → goals_and_trees_test it p ≡ Ok tt
@@ -280,18 +285,33 @@ module _ (it : Designed) where
         ]
       ]
 
-  one_verdict_of : (rows : List SparseRow) (p : Argument) (v w : Verdict) → IsVerdict it rows p v → IsVerdict it rows p w → v ≡ w
-  one_verdict_of rows p v w (valid is) (valid also) = refl
-  one_verdict_of rows p v w (valid is) (lemma_breaks k why first) = absurd (all_valid rows p.lemmas k why first is.lemmas)
-  one_verdict_of rows p v w (valid is) (goals_break at why are e) = absurd (let ok = proof_unbroken rows p is in cc)
-  one_verdict_of rows p v w (lemma_breaks k why first) (valid is) = absurd (all_valid rows p.lemmas k why first is.lemmas)
-  one_verdict_of rows p v w (lemma_breaks k why first) (lemma_breaks j wherefore second) =
-      let one = one_break rows p.lemmas k j why wherefore first second in cc
-  one_verdict_of rows p v w (lemma_breaks k why first) (goals_break at wherefore are e) = absurd (all_valid rows p.lemmas k why first are)
-  one_verdict_of rows p v w (goals_break at why are e) (valid is) = absurd (let ok = proof_unbroken rows p is in cc)
-  one_verdict_of rows p v w (goals_break at why are e) (lemma_breaks k wherefore first) = absurd (all_valid rows p.lemmas k wherefore first are)
-  one_verdict_of rows p v w (goals_break at why are e) (goals_break spot wherefore also f) =
-      ap (λ (x : ProofPath × Reason). verdict.No x.0 x.1) (same_break (goals_and_trees_test it p) (at, why) (spot, wherefore) e f)
+module _ (net : Network) (colours : List (List ℕ)) (order later : List Signal) (rows : List SparseRow) (p : Argument) where
+  abbrev it : Designed
+  it = record { net = net; colours = colours; order = order }
+
+  abbrev jt : Designed
+  jt = record { net = net; colours = colours; order = later }
+
+  one_of : (v w : Verdict) → IsVerdict it rows p v → IsVerdict jt rows p w → v ≡ w
+  one_of v w (valid is) (valid also) = refl
+  one_of v w (valid is) (lemma_breaks k why first) = absurd (all_valid it rows p.lemmas k why (same_break_of net colours later order rows p.lemmas k why first) is.lemmas)
+  one_of v w (valid is) (goals_break at why are e) =
+      absurd (let ok = proof_unbroken it rows p is in let same = same_goals_and_trees net colours order later p in cc)
+  one_of v w (lemma_breaks k why first) (valid is) = absurd (all_valid jt rows p.lemmas k why (same_break_of net colours order later rows p.lemmas k why first) is.lemmas)
+  one_of v w (lemma_breaks k why first) (lemma_breaks j wherefore second) =
+      let one = one_break it rows p.lemmas k j why wherefore first (same_break_of net colours later order rows p.lemmas j wherefore second) in cc
+  one_of v w (lemma_breaks k why first) (goals_break at wherefore are e) =
+      absurd (all_valid jt rows p.lemmas k why (same_break_of net colours order later rows p.lemmas k why first) are)
+  one_of v w (goals_break at why are e) (valid is) =
+      absurd (let ok = proof_unbroken jt rows p is in let same = same_goals_and_trees net colours order later p in cc)
+  one_of v w (goals_break at why are e) (lemma_breaks k wherefore first) =
+      absurd (all_valid it rows p.lemmas k wherefore (same_break_of net colours later order rows p.lemmas k wherefore first) are)
+  one_of v w (goals_break at why are e) (goals_break spot wherefore also f) =
+      ap (λ (x : ProofPath × Reason). verdict.No x.0 x.1)
+      (same_break (goals_and_trees_test it p) (at, why) (spot, wherefore) e (same_goals_and_trees net colours order later p ∙ f))
 
 pub one_verdict : OneVerdict
-one_verdict it rows p v w is also = one_verdict_of it rows p v w is also
+one_verdict it jt rows p v w net colours is also =
+    one_of it.net it.colours it.order jt.order rows p v w is
+    (subst (λ (cs : List (List ℕ)). IsVerdict (record { net = it.net; colours = cs; order = jt.order }) rows p w) (sym colours)
+    (subst (λ (n : Network). IsVerdict (record { net = n; colours = jt.colours; order = jt.order }) rows p w) (sym net) also))

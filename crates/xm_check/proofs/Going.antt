@@ -1,5 +1,5 @@
 -- The walk over the steps of a goal.
-use Rattle.std.proofs.Common.{◌≡◌, ℕ, zero, suc, ◌+◌, ◌-◌, ◌<◌, ◌≤◌, Option, Some, None, Result, Ok, Err, List, [], ◌∷◌, ◌++◌, map, slice_get, take, drop, length, reverse, remove, refl, sym, ◌∙◌, ap, subst, arith}
+use Rattle.std.proofs.Common.{◌≡◌, ℕ, zero, suc, ◌+◌, ◌-◌, ◌<◌, ◌≤◌, Some, Result, Ok, Err, List, [], ◌∷◌, ◌++◌, map, slice_get, take, length, reverse, remove, refl, sym, ◌∙◌, ap, subst, arith}
 use Rattle.std.proofs.lemmas.List.{append_assoc, length-append, length-take-le, reverse-append, take-take, take_all, take_at}
 use Rattle.xm_check.specs.Break.{at_place, step_test, steps_test}
 use Rattle.xm_check.specs.Inner.Walking.{AreNested, next_test, paths_of}

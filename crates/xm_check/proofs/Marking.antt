@@ -1,6 +1,6 @@
 -- Marks of the pairs that goals name.
-use Rattle.std.proofs.Common.{◌≡◌, ◌≢◌, ℕ, zero, suc, ◌+◌, ◌*◌, ◌-◌, ◌<◌, ◌≤◌, ◌&&◌, ◌||◌, List, [], ◌∷◌, ◌++◌, length, length-set, cond, nat_eq, Bool, true, false, not, refl, sym, ◌∙◌, ap, subst, arith, inl, inr, take, get_or, add-one, map, All}
-use Rattle.std.specs.Prelude.{slice_index_or, slice_set, IsTrue}
+use Rattle.std.proofs.Common.{◌≡◌, ◌≢◌, ℕ, zero, suc, ◌+◌, ◌*◌, ◌-◌, ◌<◌, ◌&&◌, ◌||◌, List, [], ◌∷◌, ◌++◌, length, length-set, nat_eq, Bool, true, false, not, refl, sym, ◌∙◌, ap, subst, arith, inl, inr, take, get_or, add-one, map, All}
+use Rattle.std.specs.Prelude.{slice_index_or, slice_set}
 use Rattle.std.proofs.lemmas.Bool.{and_parts, cases_Bool, eq-eqb, eqb-true}
 use Rattle.std.proofs.lemmas.List.{get_or-set_other, get_or-set_same}
 use Rattle.xm_check.specs.Break.{goals_test}
@@ -9,7 +9,7 @@ use Rattle.xm_colours.specs.Pairs.{pairs}
 use Rattle.xm_design.specs.Designed.{Designed}
 use Rattle.xm_lits.specs.Paths.{is_on_path, are_same}
 use Rattle.xm_lits.specs.declared.literal.Lit.{Lit}
-use Rattle.xm_lits.specs.declared.literal.Lit.TheVariants.{Stuck, Dead, Idle, Full, Has, Lacks}
+use Rattle.xm_lits.specs.declared.literal.Lit.TheVariants.{Dead}
 use Rattle.xm_proof.specs.Valid.{all_goals, is_dead_pair}
 use Rattle.xm_model.specs.Membership.{IsIn, times}
 use Rattle.xm_model.specs.Lemmas.PortCounts.{first_or_rest}

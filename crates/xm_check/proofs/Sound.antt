@@ -1,5 +1,5 @@
 -- Where a proof is valid, no channel jams on a fair repeating run.
-use Rattle.std.proofs.Common.{◌≡◌, ℕ, zero, suc, ◌+◌, ◌<◌, ◌≤◌, Option, Some, None, List, [], ◌∷◌, ◌++◌, map, length, length-append, slice_get, Bool, true, false, ◌&&◌, refl, sym, ◌∙◌, ap, subst, arith, inl, inr, pos, negsuc, neg_ℤ, ℤ, ◌*ℤ◌, ◌≤ℤ◌}
+use Rattle.std.proofs.Common.{◌≡◌, ℕ, zero, suc, ◌+◌, ◌<◌, ◌≤◌, Option, Some, None, List, [], ◌∷◌, map, length, slice_get, Bool, true, false, ◌&&◌, refl, ◌∙◌, ap, subst, arith, inl, inr, pos, negsuc, neg_ℤ, ℤ, ◌*ℤ◌, ◌≤ℤ◌}
 use Rattle.std.proofs.lemmas.Bool.{and_parts, cases_lt}
 use Rattle.std.proofs.lemmas.Int.{ints}
 use Rattle.std.proofs.lemmas.List.{length-map}
@@ -227,5 +227,5 @@ module _ (coloured : ColoursHold) (lemmas_hold : LemmasHold) (it : Designed) (ro
       (goal_of (literals p.goals) (move_columns it) c dead.0 proof.complete (in_pairs (colours_at it.colours) it.net.channels c dead.0 short dead.1.0)) dead.1.1
 
 pub proofs_hold : RulesHold → ClashesHold → JamsAreDead → ColoursHold → LemmasHold → ProofsHold
-proofs_hold rules clashes jams coloured lemmas_hold it rows p r run flows proof c short jammed =
+proofs_hold rules clashes jams coloured lemmas_hold it rows p flows proof r run c short jammed =
     no_jam coloured lemmas_hold it rows r run flows rules clashes jams p proof c short jammed

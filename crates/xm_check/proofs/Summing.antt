@@ -1,5 +1,5 @@
 -- Items of a sum.
-use Rattle.std.proofs.Common.{◌≡◌, ℕ, zero, suc, ◌+◌, ◌<◌, Option, Some, None, Result, Ok, Err, List, [], ◌∷◌, Bool, true, false, map, slice_get, drop, get_or, length, set, refl, sym, ◌∙◌, ap, subst, arith, ℤ, add-one, drop-cons}
+use Rattle.std.proofs.Common.{◌≡◌, ℕ, suc, ◌+◌, ◌<◌, Option, Some, None, Result, Ok, Err, List, [], ◌∷◌, slice_get, drop, get_or, length, set, refl, sym, ◌∙◌, ap, ℤ, add-one, drop-cons}
 use Rattle.std.proofs.lemmas.List.{length-set}
 use Rattle.xm_check.specs.Break.{item_test, items_test}
 use Rattle.xm_check.proofs.Adding.{none_stays}

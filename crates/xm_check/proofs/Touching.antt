@@ -1,14 +1,14 @@
 -- Sums are known by their touched columns.
-use Rattle.std.proofs.Common.{◌≡◌, ℕ, zero, suc, ◌+◌, ◌<◌, ◌≤◌, Option, Some, None, List, [], ◌∷◌, ◌++◌, Bool, true, false, ◌&&◌, map, slice_get, cond, drop, length, get_or, set, refl, sym, ◌∙◌, ap, subst, arith, inl, inr, pos, ℤ, replicate, int_eq}
+use Rattle.std.proofs.Common.{◌≡◌, ℕ, zero, suc, ◌<◌, Option, Some, None, List, [], ◌∷◌, ◌++◌, Bool, true, false, map, length, set, refl, sym, ◌∙◌, ap, subst, arith, inl, inr, pos, ℤ, replicate, int_eq}
 use Rattle.std.specs.Prelude.{All, ◌⊎◌}
 use Rattle.std.proofs.lemmas.Bool.{and_parts, and_from, cases_eq, cases_lt}
 use Rattle.std.proofs.lemmas.Bool.Decides.{Decides-int_eq}
 use Rattle.std.proofs.lemmas.List.{append_assoc, append-nil, ext_get_or, get_or-replicate, get_or-set_other, get_or-set_same, get_or_past, length-replicate, length-set}
-use Rattle.std.proofs.lemmas.List.Elements.{All-cons, All-head, All-nil, All-push, All-tail, All-weaker}
+use Rattle.std.proofs.lemmas.List.Elements.{All-head, All-nil, All-push, All-tail}
 use Rattle.xm_check.proofs.Adding.{none_stays}
 use Rattle.xm_check.specs.Inner.Touched.{AreTouched, cleared, number_at, zero_at}
 use Rattle.xm_model.specs.Membership.{IsIn}
-use Rattle.xm_proof.specs.Sums.{Sums, add_entries, all_zero, plus_product, put}
+use Rattle.xm_proof.specs.Sums.{add_entries, all_zero, plus_product, put}
 use Rattle.xm_rows.specs.declared.row.Entry.{Entry}
 
 both_ways : (a b : Bool) → (a ≡ true → b ≡ true) → (b ≡ true → a ≡ true) → a ≡ b

@@ -125,11 +125,16 @@ goals_test it before k (l ∷ ls) = do
   _ ← check (is_dead_pair it l && not (is_on_path before l)) (place.Goal k, reason.Goal)
   goals_test it (before ++ l ∷ []) (suc k) ls
 
+-- each pair is a goal once
+abbrev pub pairs_test : Designed → List Refutation → Result ⊤ (ProofPath × Reason)
+pairs_test it gs = do
+  _ ← goals_test it [] 0 (literals gs)
+  check (all_goals (literals gs) (move_columns it)) (place.Goals, reason.Missing)
+
 -- what is tested behind the lemmas
 abbrev pub goals_and_trees_test : Designed → Argument → Result ⊤ (ProofPath × Reason)
 goals_and_trees_test it p = do
-  _ ← goals_test it [] 0 (literals p.goals)
-  _ ← check (all_goals (literals p.goals) (move_columns it)) (place.Goals, reason.Missing)
+  _ ← pairs_test it p.goals
   trees_test it p.lemmas [] 0 p.goals
 
 -- what is said of a proof over the flow rows: that it is valid, or its first break

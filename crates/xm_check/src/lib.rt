@@ -4,6 +4,7 @@
 mod goals;
 mod items;
 mod laws;
+mod lemmas;
 mod steps;
 mod stop;
 mod sums;
@@ -11,3 +12,4 @@ mod trees;
 mod whole;
 
 pub use laws::{one_verdict, proofs_hold};
+pub use whole::check;

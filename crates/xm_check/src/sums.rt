@@ -1,19 +1,18 @@
 //! Sums of rows, column by column, within 128 bits.
 
-ghost use Rattle.std.specs.Prelude.{◌≡◌, ◌<◌, ◌≤◌, ◌++◌, ℕ, All, cond, length, map, pos, ◌+ℤ◌, ◌*ℤ◌};
-ghost use Rattle.std.specs.Prelude.{SomeIff, IfOk, OnOk, Some, None, slice_index_or};
+ghost use Rattle.std.specs.Prelude.{◌≡◌, ◌<◌, ◌++◌, All, cond, length, map, pos};
+ghost use Rattle.std.specs.Prelude.{IfOk, OnOk, Some, None, slice_index_or};
 ghost use Rattle.xm_check.specs.Inner.Gives.{Gives};
 ghost use Rattle.xm_check.specs.Inner.Touched.{cleared, zero_at};
 ghost use Rattle.xm_model.specs.Steps as steps;
 ghost use Rattle.xm_proof.specs.Sums as spec;
-ghost use Rattle.xm_rows.specs.Row.{Fits128};
 
 use crate::stop::Stop;
 use std::alloc::Global;
 use std::marker::Model;
 use xm_model::{List, OutOfMemory};
 use xm_proof::Reason;
-use xm_rows::Entry;
+use xm_rows::{Entry, product, sum};
 
 /// What was added so far, for each column by number and for the constants.
 /// All columns but the touched are 0, so that no later step looks through all of them.
@@ -33,27 +32,6 @@ impl Model for Sums {
     ghost view = { λ s. record { columns = s.columns.items; constant = s.constant } };
 
     ghost invariant = { λ s. AreTouched s.touched.items s.columns.items };
-}
-
-/// `a * b`, or `None` where it leaves 128 bits.
-fn product(a: i128, b: i128) -> Option<i128>
-    ensures { SomeIff result (Fits128 (a *ℤ b)) (a *ℤ b) }
-{
-    within(a.checked_mul(b)?)
-}
-
-/// `a + b`, or `None` where it leaves 128 bits.
-fn sum(a: i128, b: i128) -> Option<i128>
-    ensures { SomeIff result (Fits128 (a +ℤ b)) (a +ℤ b) }
-{
-    within(a.checked_add(b)?)
-}
-
-// -2^127 leaves 128 bits, though its type holds it.
-fn within(a: i128) -> Option<i128>
-    ensures { SomeIff result (Fits128 a) a }
-{
-    if a == i128::MIN { None } else { Some(a) }
 }
 
 /// The sum and a product.

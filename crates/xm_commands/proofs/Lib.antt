@@ -8,5 +8,6 @@ mod Printed
 mod Ran
 mod Refusing
 mod Rounds
+mod Verified
 mod Whys
 mod Written

@@ -1,21 +1,25 @@
 -- One answer for given bytes: one output, no output of what is refused, one refusal but for its loop.
 use Rattle.std.proofs.Common.{◌≡◌, ℕ, List, [], length, Result, Ok, Err, refl, sym, ap, ap₂, ◌∙◌, inl, inr, subst, arith}
 use Rattle.std.proofs.Common.{◌⊎◌}
+use Rattle.std.proofs.lemmas.Bool.{cases_order}
 use Rattle.serde_json.specs.Data.{Data}
 use Rattle.serde_json.specs.Find.{get}
-use Rattle.std.specs.Prelude.{Option, codes}
+use Rattle.std.specs.Prelude.{◌≤◌, Option, Some, None, codes}
 use Rattle.xm_colours.specs.Family.{IsClosed, colours_at}
-use Rattle.xm_commands.proofs.OneBasis.{not_both_ends, same_overflow, same_pairs, same_sets, same_text}
+use Rattle.xm_check.specs.Laws.{OneVerdict}
+use Rattle.xm_commands.proofs.OneBasis.{not_both_ends, same_overflow, same_pairs, same_proof, same_said, same_sets, same_text}
 use Rattle.xm_commands.proofs.OneColours.{same_first}
 use Rattle.xm_commands.proofs.OneText.{same_text as same_run_text}
 use Rattle.xm_commands.specs.OneAnswer.{NamesLoop, NoOutputOfRefused, OneOutput, OneRefusal}
-use Rattle.xm_commands.specs.Output.{AreInvariants, IsDesignOf, IsOutput, of_check, of_inv, of_run}
-use Rattle.xm_commands.specs.Refusal.{Refuses, document_status, of_colour, of_document, of_loop, of_overflow, of_tape, of_width}
+use Rattle.xm_commands.specs.Output.{AreInvariants, IsDesignOf, IsOutput, IsVerdictOf, of_check, of_inv, of_run, of_verify, outcome_of, proof_of}
+use Rattle.xm_commands.specs.Refusal.{AsksForFlow, HasProof, Refuses, document_status, of_colour, of_document, of_form, of_loop, of_overflow, of_persistency, of_tape, of_width}
 use Rattle.xm_commands.specs.declared.command.Command.{Command}
 use Rattle.xm_commands.specs.declared.command.Command.TheVariants as command
+use Rattle.xm_commands.specs.declared.command.Outcome.{Outcome}
 use Rattle.xm_design.specs.Designed.{Designed, IsColourRefused, IsLoopRefused}
 use Rattle.xm_elim.specs.Determined.{OneEnd, OneOverflow}
 use Rattle.xm_elim.specs.Elimination.{ExclusiveEnds}
+use Rattle.xm_flow.specs.Holding.{most_pairs, pair_count}
 use Rattle.xm_flow.specs.ValidLemma.{Lemma}
 use Rattle.xm_model.specs.Net.{IsNet, Network}
 use Rattle.xm_model.specs.Steps.{◌>>=◌, demand}
@@ -29,7 +33,10 @@ use Rattle.xm_order.specs.OneRun.{OneRun}
 use Rattle.xm_order.specs.declared.signal.Signal.{Signal}
 use Rattle.xm_report.specs.Check.{check_text}
 use Rattle.xm_report.specs.Invariants.{invariant_text}
-use Rattle.xm_report.specs.Lines.{colour_line, document_line, overflow_line, tape_line, width_line}
+use Rattle.xm_persist.specs.Rights.{AllGranted, IsFirstUngranted}
+use Rattle.xm_proof.specs.declared.verdict.Verdict.{Verdict}
+use Rattle.xm_report.specs.Lines.{colour_line, document_line, form_line, overflow_line, persistency_line, tape_line, width_line}
+use Rattle.xm_report.specs.Verdict.{verdict_text}
 use Rattle.xm_shape.specs.NamedNet.{NamedNet}
 use Rattle.xm_shape.specs.Fault.{Fault, not_json}
 use Rattle.xm_shape.specs.Shape.{named_net_in}
@@ -88,19 +95,27 @@ run_texts one_run doc design tape text other is channels a b =
     let both = one.1 a.states b.states a.frames b.frames a.run b.run in
     a.same ∙ same_run_text doc.net doc.names channels a.frames b.frames (cycles_of tape) both.1 ∙ sym b.same
 
-pub outputs : OneRun → OneEnd → {bytes : List ℕ} {it : Command} {text other : List ℕ} → IsOutput bytes it text → IsOutput bytes it other → text ≡ other
-outputs one_run one_end {bytes = bytes} (of_check doc a read is_a) (of_check other b read' is_b) =
+-- both turned out so, with this text
+abbrev pub Same : Outcome → Outcome → List ℕ → List ℕ → Type 0
+Same turned other_turned text other = (turned ≡ other_turned) × (text ≡ other)
+
+pub outputs : OneRun → OneEnd → OneVerdict → {bytes : List ℕ} {it : Command} {turned other_turned : Outcome} {text other : List ℕ} → IsOutput bytes it turned text → IsOutput bytes it other_turned other → Same turned other_turned text other
+outputs one_run one_end one_verdict {bytes = bytes} (of_check doc a read is_a) (of_check other b read' is_b) =
     let same = one_document bytes doc other read read' in
-    check_texts doc a b is_a (design_of bytes other doc b read' read is_b) ∙ ap (λ (x : Doc). check_text x.names b) same
-outputs one_run one_end {bytes = bytes} {text = text} {other = said} (of_run doc a tape _ read is_a taped run) (of_run other b tape' _ read' is_b taped' run') =
+    (refl, check_texts doc a b is_a (design_of bytes other doc b read' read is_b) ∙ ap (λ (x : Doc). check_text x.names b) same)
+outputs one_run one_end one_verdict {bytes = bytes} {text = text} {other = said} (of_run doc a tape _ read is_a taped run) (of_run other b tape' _ read' is_b taped' run') =
     let same = one_document bytes other doc read' read in
     let again = subst (λ (x : Doc). tape_in x.net x.tape ≡ Ok tape') same taped' in
     let tapes : tape' ≡ tape = cc in
     let run'' = subst (λ (t : Taped). IsTextOfRun doc.net doc.names t said) tapes (subst (λ (x : Doc). IsTextOfRun x.net x.names tape' said) same run') in
-    run_texts one_run doc a tape text said is_a (channels_named bytes doc read) run run''
-outputs one_run one_end {bytes = bytes} (of_inv doc a ls read is_a p) (of_inv other b ks read' is_b q) =
+    (refl, run_texts one_run doc a tape text said is_a (channels_named bytes doc read) run run'')
+outputs one_run one_end one_verdict {bytes = bytes} (of_inv doc a ls read is_a p) (of_inv other b ks read' is_b q) =
     let same = one_document bytes doc other read read' in
-    same_text doc a b is_a (design_of bytes other doc b read' read is_b) one_end ls ks p q ∙ ap (λ (x : Doc). invariant_text x.names b ks) same
+    (refl, same_text doc a b is_a (design_of bytes other doc b read' read is_b) one_end ls ks p q ∙ ap (λ (x : Doc). invariant_text x.names b ks) same)
+outputs one_run one_end one_verdict {bytes = bytes} (of_verify doc a v read is_a p) (of_verify other b w read' is_b q) =
+    let same = one_document bytes other doc read' read in
+    let said = same_said doc a b is_a (design_of bytes other doc b read' read is_b) one_verdict v w p (subst (λ (x : Doc). IsVerdictOf x b w) same q) in
+    (ap outcome_of said, ap verdict_text said)
 
 -- ---- what is refused has no design, or no tape
 
@@ -113,17 +128,18 @@ loop_excluded : NoLoop → (doc : Doc) (design : Designed) (loop : List Signal) 
 loop_excluded none doc design loop is refused =
     none design.net design.order loop is.designed.net is.designed.order (subst (λ (net : Network). IsLoop net loop) (sym is.net) refused.looped)
 
--- what there is to a command's output
+-- the bytes are a document that has a design
 record HasDesign (bytes : List ℕ) : Type 0 where
   doc : Doc
   design : Designed
   read : document_in bytes ≡ Ok doc
   is : IsDesignOf doc design
 
-has_design : {bytes : List ℕ} {it : Command} {text : List ℕ} → IsOutput bytes it text → HasDesign bytes
+has_design : {bytes : List ℕ} {it : Command} {turned : Outcome} {text : List ℕ} → IsOutput bytes it turned text → HasDesign bytes
 has_design (of_check doc design read is) = record { doc = doc; design = design; read = read; is = is }
 has_design (of_run doc design tape text read is taped run) = record { doc = doc; design = design; read = read; is = is }
 has_design (of_inv doc design lemmas read is are) = record { doc = doc; design = design; read = read; is = is }
+has_design (of_verify doc design said read is it) = record { doc = doc; design = design; read = read; is = is }
 
 record HasTape (bytes : List ℕ) : Type 0 where
   doc : Doc
@@ -131,7 +147,7 @@ record HasTape (bytes : List ℕ) : Type 0 where
   read : document_in bytes ≡ Ok doc
   taped : tape_in doc.net doc.tape ≡ Ok tape
 
-has_tape : {bytes text : List ℕ} → IsOutput bytes command.Run text → HasTape bytes
+has_tape : {bytes text : List ℕ} {turned : Outcome} → IsOutput bytes command.Run turned text → HasTape bytes
 has_tape (of_run doc design tape text read is taped run) = record { doc = doc; tape = tape; read = read; taped = taped }
 
 record HasInvariants (bytes : List ℕ) : Type 0 where
@@ -142,10 +158,39 @@ record HasInvariants (bytes : List ℕ) : Type 0 where
   is : IsDesignOf doc design
   are : AreInvariants design lemmas
 
-has_invariants : {bytes text : List ℕ} → IsOutput bytes command.Inv text → HasInvariants bytes
+has_invariants : {bytes text : List ℕ} {turned : Outcome} → IsOutput bytes command.Inv turned text → HasInvariants bytes
 has_invariants (of_inv doc design lemmas read is are) = record { doc = doc; design = design; lemmas = lemmas; read = read; is = is; are = are }
 
-pub excludes : NoLoop → ExclusiveEnds → {bytes : List ℕ} {it : Command} {status : ℕ} {line text : List ℕ} → Refuses bytes it status line → IsOutput bytes it text → ⊥
+record HasVerdict (bytes : List ℕ) : Type 0 where
+  doc : Doc
+  design : Designed
+  said : Verdict
+  read : document_in bytes ≡ Ok doc
+  is : IsDesignOf doc design
+  verdict : IsVerdictOf doc design said
+
+has_verdict : {bytes text : List ℕ} {turned : Outcome} → IsOutput bytes command.Verify turned text → HasVerdict bytes
+has_verdict (of_verify doc design said read is it) = record { doc = doc; design = design; said = said; read = read; is = is; verdict = it }
+
+-- a command that asks for flow rows and has an output found no more pairs than there may be
+narrow : {bytes : List ℕ} {it : Command} {turned : Outcome} {text : List ℕ} (doc : Doc) (design : Designed) → AsksForFlow it doc design → document_in bytes ≡ Ok doc → IsDesignOf doc design → IsOutput bytes it turned text
+    → pair_count design ≤ most_pairs
+narrow doc design asks read is (of_check _ _ _ _) = absurd asks
+narrow doc design asks read is (of_run _ _ _ _ _ _ _ _) = absurd asks
+narrow {bytes = bytes} doc design asks read is (of_inv other b _ read' is_b are) =
+    let pairs = same_pairs doc b design (design_of bytes other doc b read' read is_b) is in
+    omega (arith, pairs, are.has_flow.narrow)
+narrow {bytes = bytes} doc design asks read is (of_verify other b _ read' is_b said) =
+    let pairs = same_pairs doc b design (design_of bytes other doc b read' read is_b) is in
+    omega (arith, pairs, said.has_flow.narrow)
+
+-- what was said of a proof is of the other document, which is the same
+said_of : {bytes : List ℕ} (doc : Doc) → document_in bytes ≡ Ok doc → (has : HasVerdict bytes) → IsVerdictOf doc has.design has.said × IsDesignOf doc has.design
+said_of {bytes = bytes} doc read has =
+    let same = one_document bytes has.doc doc has.read read in
+    (subst (λ (x : Doc). IsVerdictOf x has.design has.said) same has.verdict, design_of bytes has.doc doc has.design has.read read has.is)
+
+pub excludes : NoLoop → ExclusiveEnds → {bytes : List ℕ} {it : Command} {status : ℕ} {turned : Outcome} {line text : List ℕ} → Refuses bytes it status line → IsOutput bytes it turned text → ⊥
 excludes none exclusive (of_document fault failed) is = (let has = has_design is in let read = has.read in cc)
 excludes none exclusive {bytes = bytes} (of_colour doc c d read refused) is =
     let has = has_design is in
@@ -157,10 +202,18 @@ excludes none exclusive {bytes = bytes} (of_tape doc design fault read made fail
     let has = has_tape is in
     let taped = subst (λ (x : Doc). tape_in x.net x.tape ≡ Ok has.tape) (one_document bytes has.doc doc has.read read) has.taped in
     cc
-excludes none exclusive {bytes = bytes} (of_width doc design read made wide) is =
-    let has = has_invariants is in
-    let pairs = same_pairs doc has.design design (design_of bytes has.doc doc has.design has.read read has.is) made in
-    absurd (omega (arith, pairs, wide, has.are.has_flow.narrow))
+excludes none exclusive (of_form doc design path read made failed) is =
+    let has = has_verdict is in
+    let said = said_of doc read has in
+    let proof = same_proof doc has.design design said.1 made in
+    let found = said.0.proof in
+    cc
+excludes none exclusive (of_persistency doc design c read made proof first) is =
+    let has = has_verdict is in
+    let said = said_of doc read has in
+    let granted = subst AllGranted (said.1.net ∙ sym made.net) said.0.granted in
+    first.ungranted (granted c first.is_channel)
+excludes none exclusive (of_width doc design read made asks wide) is = let few = narrow doc design asks read made is in absurd (omega (arith, wide, few))
 excludes none exclusive {bytes = bytes} (of_overflow doc design flow r s column read made rows meets) is =
     let has = has_invariants is in
     not_both_ends doc has.design design (design_of bytes has.doc doc has.design has.read read has.is) made exclusive has.lemmas flow r s column has.are rows meets
@@ -176,76 +229,141 @@ not_both : (doc : Doc) (c d : ℕ) (loop : List Signal) → IsColourRefused doc.
 not_both doc c d loop colour looped =
     looped.allowed c d (colour.are_colours.least looped.colours looped.are_colours.closed c d colour.first.is_pair) colour.first.refused
 
-pub refusals : NoLoop → OneOverflow → {bytes : List ℕ} {it : Command} {status other : ℕ} {line said : List ℕ} → Refuses bytes it status line → Refuses bytes it other said → Agree bytes status other line said
-refusals none one (of_document fault failed) (of_document fault' failed') = let e : fault ≡ fault' = cc in (ap document_status e, inl (ap document_line e))
-refusals none one (of_document fault failed) (of_colour doc c d read refused) = absurd cc
-refusals none one (of_document fault failed) (of_loop doc loop read refused) = absurd cc
-refusals none one (of_document fault failed) (of_tape doc design tape read made failed') = absurd cc
-refusals none one (of_colour doc c d read refused) (of_document fault failed) = absurd cc
-refusals none one {bytes = bytes} (of_colour doc c d read refused) (of_colour doc' c' d' read' refused') =
+-- the design that is refused for what is asked of it; none where there is no design
+abbrev designed : {bytes : List ℕ} {it : Command} {status : ℕ} {line : List ℕ} → Refuses bytes it status line → Option (HasDesign bytes)
+designed (of_document fault failed) = None
+designed (of_colour doc c d read refused) = None
+designed (of_loop doc loop read refused) = None
+designed (of_tape doc design fault read made failed) = Some (record { doc = doc; design = design; read = read; is = made })
+designed (of_form doc design path read made failed) = Some (record { doc = doc; design = design; read = read; is = made })
+designed (of_persistency doc design c read made proof first) = Some (record { doc = doc; design = design; read = read; is = made })
+designed (of_width doc design read made asks wide) = Some (record { doc = doc; design = design; read = read; is = made })
+designed (of_overflow doc design flow r s column read made rows meets) = Some (record { doc = doc; design = design; read = read; is = made })
+
+-- where there is a design no refusal is for want of one
+undesigned : NoLoop → {bytes : List ℕ} {it : Command} {status : ℕ} {line : List ℕ} (p : Refuses bytes it status line) → designed p ≡ None → HasDesign bytes → ⊥
+undesigned none (of_document fault failed) e has = (let read = has.read in cc)
+undesigned none {bytes = bytes} (of_colour doc c d read refused) e has = colour_excluded doc has.design c d (design_of bytes has.doc doc has.design has.read read has.is) refused
+undesigned none {bytes = bytes} (of_loop doc loop read refused) e has = loop_excluded none doc has.design loop (design_of bytes has.doc doc has.design has.read read has.is) refused
+undesigned none (of_tape doc design fault read made failed) e has = absurd cc
+undesigned none (of_form doc design path read made failed) e has = absurd cc
+undesigned none (of_persistency doc design c read made proof first) e has = absurd cc
+undesigned none (of_width doc design read made asks wide) e has = absurd cc
+undesigned none (of_overflow doc design flow r s column read made rows meets) e has = absurd cc
+
+-- two refusals of what has no design
+both_undesigned : {bytes : List ℕ} {it : Command} {status other : ℕ} {line said : List ℕ} (p : Refuses bytes it status line) (q : Refuses bytes it other said) → designed p ≡ None → designed q ≡ None
+    → Agree bytes status other line said
+both_undesigned (of_document fault failed) (of_document fault' failed') e f = let same : fault ≡ fault' = cc in (ap document_status same, inl (ap document_line same))
+both_undesigned (of_document fault failed) (of_colour doc c d read refused) e f = absurd cc
+both_undesigned (of_document fault failed) (of_loop doc loop read refused) e f = absurd cc
+both_undesigned (of_colour doc c d read refused) (of_document fault failed) e f = absurd cc
+both_undesigned {bytes = bytes} (of_colour doc c d read refused) (of_colour doc' c' d' read' refused') e f =
     let same = one_document bytes doc' doc read' read in
     let again = subst (λ (x : Doc). IsColourRefused x.net x.allow c' d') same refused' in
     let pair = same_first doc.net doc.allow refused.colours again.colours c d c' d' refused.are_colours again.are_colours refused.first again.first in
     (refl, inl (ap₂ (colour_line doc.names) pair.0 pair.1 ∙ ap (λ (x : Doc). colour_line x.names c' d') (sym same)))
-refusals none one {bytes = bytes} (of_colour doc c d read refused) (of_loop doc' loop read' refused') =
+both_undesigned {bytes = bytes} (of_colour doc c d read refused) (of_loop doc' loop read' refused') e f =
     absurd (not_both doc c d loop refused (subst (λ (x : Doc). IsLoopRefused x.net x.allow loop) (one_document bytes doc' doc read' read) refused'))
-refusals none one {bytes = bytes} (of_colour doc c d read refused) (of_tape doc' design tape read' made failed) =
-    absurd (colour_excluded doc design c d (design_of bytes doc' doc design read' read made) refused)
-refusals none one (of_loop doc loop read refused) (of_document fault failed) = absurd cc
-refusals none one {bytes = bytes} (of_loop doc loop read refused) (of_colour doc' c d read' refused') =
+both_undesigned (of_loop doc loop read refused) (of_document fault failed) e f = absurd cc
+both_undesigned {bytes = bytes} (of_loop doc loop read refused) (of_colour doc' c d read' refused') e f =
     absurd (not_both doc c d loop (subst (λ (x : Doc). IsColourRefused x.net x.allow c d) (one_document bytes doc' doc read' read) refused') refused)
-refusals none one (of_loop doc loop read refused) (of_loop doc' loop' read' refused') =
+both_undesigned (of_loop doc loop read refused) (of_loop doc' loop' read' refused') e f =
     (refl, inr (record { doc = doc; loop = loop; read = read; refused = refused; named = refl }, record { doc = doc'; loop = loop'; read = read'; refused = refused'; named = refl }))
-refusals none one {bytes = bytes} (of_loop doc loop read refused) (of_tape doc' design tape read' made failed) =
-    absurd (loop_excluded none doc design loop (design_of bytes doc' doc design read' read made) refused)
-refusals none one (of_tape doc design tape read made failed) (of_document fault failed') = absurd cc
-refusals none one {bytes = bytes} (of_tape doc design tape read made failed) (of_colour doc' c d read' refused) =
-    absurd (colour_excluded doc' design c d (design_of bytes doc doc' design read read' made) refused)
-refusals none one {bytes = bytes} (of_tape doc design tape read made failed) (of_loop doc' loop read' refused) =
-    absurd (loop_excluded none doc' design loop (design_of bytes doc doc' design read read' made) refused)
-refusals none one {bytes = bytes} (of_tape doc design tape read made failed) (of_tape doc' design' tape' read' made' failed') =
+both_undesigned _ _ e f = absurd cc
+
+one_ungranted : (net : Network) (c e : ℕ) → IsFirstUngranted net c → IsFirstUngranted net e → c ≡ e
+one_ungranted net c e p q = elim (cases_order c e) [
+  | inl same ↦ same
+  | inr (inl below) ↦ absurd (p.ungranted (q.granted_below c below))
+  | inr (inr above) ↦ absurd (q.ungranted (p.granted_below e above))
+]
+
+-- two designs of the same bytes, for one of the documents
+module _ (bytes : List ℕ) (doc other : Doc) (a b : Designed) (read : document_in bytes ≡ Ok doc) (read' : document_in bytes ≡ Ok other) (is_a : IsDesignOf doc a) (is_b : IsDesignOf other b) where
+  other_of : IsDesignOf doc b
+  other_of = design_of bytes other doc b read' read is_b
+
+  same_doc : other ≡ doc
+  same_doc = one_document bytes other doc read' read
+
+  both_pairs : pair_count a ≡ pair_count b
+  both_pairs = same_pairs doc a b is_a other_of
+
+  both_proofs : proof_of doc a ≡ proof_of other b
+  both_proofs = same_proof doc a b is_a other_of ∙ ap (λ (x : Doc). proof_of x b) (sym same_doc)
+
+  granted_both : AllGranted a.net → (c : ℕ) → IsFirstUngranted b.net c → ⊥
+  granted_both granted c first = first.ungranted (subst AllGranted (is_a.net ∙ sym other_of.net) granted c first.is_channel)
+
+  same_ungranted : (c e : ℕ) → IsFirstUngranted a.net c → IsFirstUngranted b.net e → persistency_line doc.names c ≡ persistency_line other.names e
+  same_ungranted c e first first' =
+      let here = subst (λ (net : Network). IsFirstUngranted net e) (other_of.net ∙ sym is_a.net) first' in
+      ap₂ (λ (x : Doc) (i : ℕ). persistency_line x.names i) (sym same_doc) (one_ungranted a.net c e first here)
+
+-- two refusals of what has a design
+both_designed : OneOverflow → {bytes : List ℕ} {it : Command} {status other : ℕ} {line said : List ℕ} (p : Refuses bytes it status line) (q : Refuses bytes it other said) (x y : HasDesign bytes) → designed p ≡ Some x → designed q ≡ Some y
+    → Agree bytes status other line said
+both_designed one {bytes = bytes} (of_tape doc design tape read made failed) (of_tape doc' design' tape' read' made' failed') x y e f =
     let again = subst (λ (x : Doc). tape_in x.net x.tape ≡ Err tape') (one_document bytes doc' doc read' read) failed' in
-    let e : tape ≡ tape' = cc in
-    (refl, inl (ap tape_line e))
-refusals none one (of_document fault failed) (of_width doc design read made wide) = absurd cc
-refusals none one (of_document fault failed) (of_overflow doc design flow r s column read made rows meets) = absurd cc
-refusals none one {bytes = bytes} (of_colour doc c d read refused) (of_width doc' design read' made wide) =
-    absurd (colour_excluded doc design c d (design_of bytes doc' doc design read' read made) refused)
-refusals none one {bytes = bytes} (of_colour doc c d read refused) (of_overflow doc' design flow r s column read' made rows meets) =
-    absurd (colour_excluded doc design c d (design_of bytes doc' doc design read' read made) refused)
-refusals none one {bytes = bytes} (of_loop doc loop read refused) (of_width doc' design read' made wide) =
-    absurd (loop_excluded none doc design loop (design_of bytes doc' doc design read' read made) refused)
-refusals none one {bytes = bytes} (of_loop doc loop read refused) (of_overflow doc' design flow r s column read' made rows meets) =
-    absurd (loop_excluded none doc design loop (design_of bytes doc' doc design read' read made) refused)
-refusals none one (of_width doc design read made wide) (of_document fault failed) = absurd cc
-refusals none one {bytes = bytes} (of_width doc design read made wide) (of_colour doc' c d read' refused) =
-    absurd (colour_excluded doc' design c d (design_of bytes doc doc' design read read' made) refused)
-refusals none one {bytes = bytes} (of_width doc design read made wide) (of_loop doc' loop read' refused) =
-    absurd (loop_excluded none doc' design loop (design_of bytes doc doc' design read read' made) refused)
-refusals none one {bytes = bytes} (of_width doc design read made wide) (of_width doc' design' read' made' wide') =
-    let pairs = same_pairs doc design design' made (design_of bytes doc' doc design' read' read made') in
-    (refl, inl (ap width_line pairs))
-refusals none one {bytes = bytes} (of_width doc design read made wide) (of_overflow doc' design' flow r s column read' made' rows meets) =
-    let pairs = same_pairs doc design design' made (design_of bytes doc' doc design' read' read made') in
+    let same : tape ≡ tape' = cc in
+    (refl, inl (ap tape_line same))
+both_designed one (of_tape doc design tape read made failed) (of_width doc' design' read' made' asks wide) x y e f = absurd asks
+both_designed one (of_width doc design read made asks wide) (of_tape doc' design' tape read' made' failed) x y e f = absurd asks
+both_designed one {bytes = bytes} (of_form doc a path read made failed) (of_form doc' b path' read' made' failed') x y e f =
+    let proofs = both_proofs bytes doc doc' a b read read' made made' in
+    let same : path ≡ path' = cc in
+    (refl, inl (ap form_line same))
+both_designed one {bytes = bytes} (of_form doc a path read made failed) (of_persistency doc' b c read' made' has first) x y e f =
+    let proofs = both_proofs bytes doc doc' a b read read' made made' in
+    let found = has.proof in
+    absurd cc
+both_designed one {bytes = bytes} (of_form doc a path read made failed) (of_width doc' b read' made' asks wide) x y e f =
+    let proofs = both_proofs bytes doc doc' a b read read' made made' in
+    let found = asks.0.proof in
+    absurd cc
+both_designed one {bytes = bytes} (of_persistency doc a c read made has first) (of_form doc' b path read' made' failed) x y e f =
+    let proofs = both_proofs bytes doc doc' a b read read' made made' in
+    let found = has.proof in
+    absurd cc
+both_designed one {bytes = bytes} (of_persistency doc a c read made has first) (of_persistency doc' b c' read' made' has' first') x y e f =
+    (refl, inl (same_ungranted bytes doc doc' a b read read' made made' c c' first first'))
+both_designed one {bytes = bytes} (of_persistency doc a c read made has first) (of_width doc' b read' made' asks wide) x y e f =
+    absurd (granted_both bytes doc' doc b a read' read made' made asks.1 c first)
+both_designed one {bytes = bytes} (of_width doc a read made asks wide) (of_form doc' b path read' made' failed) x y e f =
+    let proofs = both_proofs bytes doc doc' a b read read' made made' in
+    let found = asks.0.proof in
+    absurd cc
+both_designed one {bytes = bytes} (of_width doc a read made asks wide) (of_persistency doc' b c read' made' has first) x y e f =
+    absurd (granted_both bytes doc doc' a b read read' made made' asks.1 c first)
+both_designed one {bytes = bytes} (of_width doc a read made asks wide) (of_width doc' b read' made' asks' wide') x y e f =
+    (refl, inl (ap width_line (both_pairs bytes doc doc' a b read read' made made')))
+both_designed one {bytes = bytes} (of_width doc a read made asks wide) (of_overflow doc' b flow r s column read' made' rows meets) x y e f =
+    let pairs = both_pairs bytes doc doc' a b read read' made made' in
     absurd (omega (arith, pairs, wide, rows.narrow))
-refusals none one (of_overflow doc design flow r s column read made rows meets) (of_document fault failed) = absurd cc
-refusals none one {bytes = bytes} (of_overflow doc design flow r s column read made rows meets) (of_colour doc' c d read' refused) =
-    absurd (colour_excluded doc' design c d (design_of bytes doc doc' design read read' made) refused)
-refusals none one {bytes = bytes} (of_overflow doc design flow r s column read made rows meets) (of_loop doc' loop read' refused) =
-    absurd (loop_excluded none doc' design loop (design_of bytes doc doc' design read read' made) refused)
-refusals none one {bytes = bytes} (of_overflow doc design flow r s column read made rows meets) (of_width doc' design' read' made' wide) =
-    let pairs = same_pairs doc design design' made (design_of bytes doc' doc design' read' read made') in
+both_designed one {bytes = bytes} (of_overflow doc a flow r s column read made rows meets) (of_width doc' b read' made' asks wide) x y e f =
+    let pairs = both_pairs bytes doc doc' a b read read' made made' in
     absurd (omega (arith, pairs, wide, rows.narrow))
-refusals none one {bytes = bytes} (of_overflow doc design flow r s column read made rows meets) (of_overflow doc' design' flow' t u other read' made' rows' meets') =
-    (refl, inl (ap overflow_line (same_overflow doc design design' made (design_of bytes doc' doc design' read' read made') one flow flow' r s t u column other rows rows' meets meets')))
+both_designed one {bytes = bytes} (of_overflow doc a flow r s column read made rows meets) (of_overflow doc' b flow' t u other read' made' rows' meets') x y e f =
+    (refl, inl (ap overflow_line (same_overflow doc a b made (design_of bytes doc' doc b read' read made') one flow flow' r s t u column other rows rows' meets meets')))
+both_designed one _ _ x y e f = absurd cc
+
+pub refusals : NoLoop → OneOverflow → {bytes : List ℕ} {it : Command} {status other : ℕ} {line said : List ℕ} → Refuses bytes it status line → Refuses bytes it other said → Agree bytes status other line said
+refusals none one {bytes = bytes} {it = it} {status = status} {other = other} {line = line} {said = said} p q = by_design (designed p) refl (designed q) refl
+  where
+    by_design : (x : Option (HasDesign bytes)) → designed p ≡ x → (y : Option (HasDesign bytes)) → designed q ≡ y → Agree bytes status other line said
+    by_design None e None f = both_undesigned p q e f
+    by_design None e (Some has) f = absurd (undesigned none p e has)
+    by_design (Some has) e None f = absurd (undesigned none q f has)
+    by_design (Some has) e (Some has') f = both_designed one p q has has' e f
 
 -- ---- the laws
 
-pub one_output : OneRun → OneEnd → OneOutput
-one_output one_run one_end = λ bytes it text other p q. outputs one_run one_end p q
+pub one_output : OneRun → OneEnd → OneVerdict → OneOutput
+one_output one_run one_end one_verdict = λ bytes it turned other_turned text other p q. outputs one_run one_end one_verdict p q
 
 pub no_output : NoLoop → ExclusiveEnds → NoOutputOfRefused
-no_output none exclusive = λ bytes it status line text p q. excludes none exclusive p q
+no_output none exclusive = λ bytes it status turned line text p q. excludes none exclusive p q
 
 pub one_refusal : NoLoop → OneOverflow → OneRefusal
 one_refusal none one = λ bytes it status other line said p q. refusals none one p q

@@ -1,11 +1,13 @@
--- A document has one list of flow rows, and `inv` one text or one overflow.
+-- A document has one list of flow rows, `inv` one text or one overflow, and `verify` one verdict.
 use Rattle.std.proofs.Common.{◌≡◌, ◌∙◌, ℕ, List, [], ◌+◌, ◌++◌, length, map, slice_get, sym, ap, ap₂, subst, codes}
 use Rattle.std.proofs.lemmas.List.{ext_get_or}
 use Rattle.std.specs.List.{flat_map}
 use Rattle.xm_colours.specs.Family.{AreColours, colours_at}
 use Rattle.xm_colours.specs.Pairs.{pairs, queue_pairs}
 use Rattle.xm_commands.proofs.OneColours.{same_colours}
-use Rattle.xm_commands.specs.Output.{AreInvariants, HasFlow, IsDesignOf}
+use Rattle.xm_check.specs.Break.{IsVerdict}
+use Rattle.xm_check.specs.Laws.{OneVerdict}
+use Rattle.xm_commands.specs.Output.{AreInvariants, HasFlow, IsDesignOf, IsVerdictOf, proof_of}
 use Rattle.xm_design.specs.Designed.{Designed}
 use Rattle.xm_elim.specs.Basis.{AreOver}
 use Rattle.xm_elim.specs.Determined.{OneEnd, OneOverflow}
@@ -17,6 +19,9 @@ use Rattle.xm_flow.specs.Lemmas.Within.{rows_within}
 use Rattle.xm_flow.specs.ValidLemma.{Lemma}
 use Rattle.xm_model.specs.Net.{Network}
 use Rattle.xm_netlist.specs.Doc.{Doc}
+use Rattle.xm_proof.specs.Argument.{Argument}
+use Rattle.xm_proof.specs.declared.verdict.Verdict.{Verdict}
+use Rattle.xm_proof_reader.specs.Reading.{proof_in}
 use Rattle.xm_report.specs.Check.{count_line}
 use Rattle.xm_report.specs.Invariants.{invariant_line, invariant_text}
 use Rattle.xm_rows.specs.Row.{SparseRow}
@@ -89,3 +94,15 @@ module _ (doc : Doc) (a b : Designed) (is_a : IsDesignOf doc a) (is_b : IsDesign
   pub same_text : OneEnd → (ls ks : List Lemma) → AreInvariants a ls → AreInvariants b ks → invariant_text doc.names a ls ≡ invariant_text doc.names b ks
   same_text one ls ks p q =
       ap₂ (λ (qs : List (ℕ × ℕ)) (lemmas : List Lemma). flat_map (invariant_line doc.names qs) lemmas ++ count_line (codes "end") (length lemmas)) same_queue_pairs (same_lemmas one ls ks p q)
+
+  -- one proof, or one break of its form
+  pub same_proof : proof_of doc a ≡ proof_of doc b
+  same_proof = ap₂ (λ (net : Network) (qs : List (ℕ × ℕ)). proof_in (record { net = net; names = doc.names; pairs = qs }) doc.proof) same_net same_queue_pairs
+
+  -- and one verdict
+  pub same_said : OneVerdict → (v w : Verdict) → IsVerdictOf doc a v → IsVerdictOf doc b w → v ≡ w
+  same_said one v w p q =
+      let arguments : q.argument ≡ p.argument = (let there = same_proof in let found = p.proof in let said = q.proof in cc) in
+      let rows = same_flow p.rows q.rows p.has_flow q.has_flow in
+      let there = subst (λ (x : Argument). IsVerdict b q.rows.rows x w) arguments q.is_verdict in
+      one a b p.rows.rows p.argument v w same_net (same_sets doc a b is_a is_b) p.is_verdict (subst (λ (rs : List SparseRow). IsVerdict b rs p.argument w) (sym rows) there)

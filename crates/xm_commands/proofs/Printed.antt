@@ -5,6 +5,8 @@ use Rattle.xm_commands.specs.Inner.Prepared.{IsPrepared}
 use Rattle.xm_commands.specs.Output.{AreInvariants, IsDesignOf, IsOutput, of_inv}
 use Rattle.xm_commands.specs.PrintedInvariants.{HoldOnRuns, PrintedHold, PrintsHolding}
 use Rattle.xm_commands.specs.declared.command.Command.TheVariants as command
+use Rattle.xm_commands.specs.declared.command.Outcome.{Outcome}
+use Rattle.xm_commands.specs.declared.command.Outcome.TheVariants as outcome
 use Rattle.xm_commands.specs.declared.prepared.Prepared.{Prepared}
 use Rattle.xm_design.specs.Designed.{Designed}
 use Rattle.xm_flow.specs.Holding.{LemmasHold, count_columns, count_value, pair_count, point, queue_pair_count}
@@ -28,9 +30,9 @@ hold law net design lemmas doc is it cycles w s φ tape run t within =
     (λ l valid. law design it.rows.rows l cycles w s φ is.designed it.has_flow.is_flow.rows valid (subst (λ (n : Network). TapeFits n cycles w) (sym is.net) tape) (subst (λ (n : Network). IsRun n cycles w s φ) (sym is.net) run) t within) it.basis.valid
 
 pub printed_hold : LemmasHold → PrintedHold
-printed_hold law bytes text output = by_output output
+printed_hold law bytes text turned output = by_output output
   where
-    by_output : {said : List ℕ} → IsOutput bytes command.Inv said → PrintsHolding bytes said
+    by_output : {it : Outcome} {said : List ℕ} → IsOutput bytes command.Inv it said → PrintsHolding bytes said
     by_output (of_inv doc design lemmas read is it) = record {
       doc = doc;
       design = design;
@@ -44,9 +46,9 @@ printed_hold law bytes text output = by_output output
 -- ---- what was written
 
 pub invariants_printed : (bytes : List ℕ) (it : Prepared) (lemmas : List Lemma) → IsPrepared bytes it → AreInvariants it.design lemmas → (text : List ℕ) → text ≡ invariant_text (naming_of it.names) it.design lemmas
-    → IsOutput bytes command.Inv text
+    → IsOutput bytes command.Inv outcome.Yes text
 invariants_printed bytes it lemmas is are text same =
-    subst (IsOutput bytes command.Inv) (sym (same ∙ ap (λ names. invariant_text names it.design lemmas) is.names)) (of_inv is.doc it.design lemmas is.read is.design are)
+    subst (IsOutput bytes command.Inv outcome.Yes) (sym (same ∙ ap (λ names. invariant_text names it.design lemmas) is.names)) (of_inv is.doc it.design lemmas is.read is.design are)
 
 -- their columns are queue pairs
 pub columns_within : (moves counts : ℕ) (flow : List SparseRow) (invariants : List Invariant) → All (IsValid moves counts flow) (map lemma_of invariants) → All (λ it. All (λ e. e.column < counts) it.row.entries) invariants

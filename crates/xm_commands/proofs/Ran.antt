@@ -1,7 +1,7 @@
 -- The text of a tape's run is the output of `run`.
 use Rattle.std.proofs.Common.{◌≡◌, ℕ, List, Option, Result, Ok, Err, Some, None, Bor, ap, ap₂, sym, ◌∙◌, refl, subst, inr}
 use Rattle.std.specs.Io.KnownBytes.{Appends}
-use Rattle.std.specs.Prelude.{IfErr, OnErr, OnOk, option_copied, option_map}
+use Rattle.std.specs.Prelude.{IfErr, IfOk, OnErr, OnOk, option_copied, option_map}
 use Rattle.serde_json.specs.Data.{Data}
 use Rattle.serde_json.specs.View.{view}
 use Rattle.serde_json.specs.declared.value.Value.{Value}
@@ -12,9 +12,11 @@ use Rattle.xm_tape.specs.Reading.{tape_in}
 use Rattle.xm_tape.specs.Taped.{Taped, chosen, cycles_of, rows_of}
 use Rattle.xm_trace.specs.Text.{IsTextOfRun, run_text}
 use Rattle.xm_commands.specs.Output.{IsOutput, of_run}
-use Rattle.xm_commands.specs.Inner.WhyEnded.{Change, HasAnswered, IsUnharmed, IsWriteFault}
+use Rattle.xm_commands.specs.Inner.WhyEnded.{Change, HasAnswered, IsCause, IsUnharmed, IsWriteFault}
 use Rattle.xm_commands.specs.Inner.Prepared.{IsPrepared}
 use Rattle.xm_commands.specs.declared.command.Command.TheVariants as command
+use Rattle.xm_commands.specs.declared.command.Outcome.{Outcome}
+use Rattle.xm_commands.specs.declared.command.Outcome.TheVariants as outcome
 use Rattle.xm_commands.specs.declared.prepared.Prepared.{Prepared}
 use Rattle.xm_commands.specs.declared.refusal.Refusal.{Refusal}
 use Rattle.xm_commands.specs.declared.refusal.Refusal.TheVariants as refusal
@@ -27,7 +29,7 @@ lent_value it (Some v) same = ap (option_map view) same
 pub record Ran (bytes : List ℕ) (it : Prepared) (tape : Taped) : Type 0 where
   pub text : List ℕ
   pub is_text : IsTextOfRun it.design.net (naming_of it.names) tape text
-  pub is_output : IsOutput bytes command.Run text
+  pub is_output : IsOutput bytes command.Run outcome.Yes text
 
 pub ran : OneRun → (bytes : List ℕ) (it : Prepared) → IsPrepared bytes it → (tape : Taped) (value : Option Data) → value ≡ option_map view it.tape → tape_in it.design.net value ≡ Ok tape → Ran bytes it tape
 ran one_run bytes it is tape value seen read =
@@ -43,16 +45,16 @@ ran one_run bytes it is tape value seen read =
       is_output = of_run is.doc it.design tape text is.read is.design (ap₂ tape_in (sym is.design.net) (sym is.tape ∙ sym seen) ∙ read) of_doc;
     }
 
--- how a run ended, from the answer of the call that wrote its text
-pub run_ended : {T K : Type 0} (r : Result T Refusal) (bytes text : List ℕ) (sink : Change K) → IsOutput bytes command.Run text → OnOk r (Appends sink.bytes_before sink.bytes_after text)
-    → OnErr r (AppendsFront sink.bytes_before sink.bytes_after text) → OnOk r (IsUnharmed sink) → IfErr r (IsWriteFault sink.faults_before sink.faults_after) → HasAnswered bytes command.Run sink r
-run_ended (Ok x) bytes text sink is whole front unharmed cause = ((text, is, whole), unharmed)
-run_ended (Err refusal.Words) bytes text sink is whole front unharmed cause = cause
-run_ended (Err (refusal.Document line)) bytes text sink is whole front unharmed cause = absurd cause
-run_ended (Err (refusal.Net line)) bytes text sink is whole front unharmed cause = absurd cause
-run_ended (Err (refusal.Tape line)) bytes text sink is whole front unharmed cause = absurd cause
-run_ended (Err (refusal.Overflow line)) bytes text sink is whole front unharmed cause = absurd cause
-run_ended (Err refusal.Read) bytes text sink is whole front unharmed cause = cause
-run_ended (Err refusal.Write) bytes text sink is whole front unharmed cause = (cause, (text, is, front))
-run_ended (Err refusal.Memory) bytes text sink is whole front unharmed cause = (cause, inr (text, is, front))
-run_ended (Err refusal.TooLong) bytes text sink is whole front unharmed cause = cause
+-- why a run did not end, from the answer of the call that wrote its text
+pub run_failed : {K : Type 0} (r : Refusal) (bytes text : List ℕ) (sink : Change K) → IsOutput bytes command.Run outcome.Yes text → AppendsFront sink.bytes_before sink.bytes_after text
+    → IsWriteFault sink.faults_before sink.faults_after r → IsCause bytes command.Run sink r
+run_failed refusal.Write bytes text sink is front cause = (cause, (outcome.Yes, text, is, front))
+run_failed refusal.Memory bytes text sink is front cause = (cause, inr (outcome.Yes, text, is, front))
+run_failed _ bytes text sink is front cause = absurd cause
+
+-- how a run ended
+pub run_ended : {K : Type 0} (r : Result Outcome Refusal) (bytes text : List ℕ) (sink : Change K) → IsOutput bytes command.Run outcome.Yes text → IfOk r (λ it. it ≡ outcome.Yes)
+    → OnOk r (Appends sink.bytes_before sink.bytes_after text) → OnErr r (AppendsFront sink.bytes_before sink.bytes_after text) → OnOk r (IsUnharmed sink) → IfErr r (IsWriteFault sink.faults_before sink.faults_after)
+    → HasAnswered bytes command.Run sink r
+run_ended (Ok it) bytes text sink is same whole front unharmed cause = ((text, subst (λ (o : Outcome). IsOutput bytes command.Run o text) (sym same) is, whole), unharmed)
+run_ended (Err why) bytes text sink is same whole front unharmed cause = run_failed why bytes text sink is front cause

@@ -1,8 +1,11 @@
 -- Why bytes are refused, from the faults that were found.
-use Rattle.std.proofs.Common.{◌≡◌, ℕ, true, false, List, Some, Result, Ok, Err, refl, sym, ap, subst, inl}
+use Rattle.std.proofs.Common.{◌≡◌, ◌<◌, ℕ, true, false, List, Some, Result, Ok, Err, refl, sym, ap, subst, inl}
 use Rattle.xm_design.specs.Designed.{Designed, IsColourRefused, IsLoopRefused}
 use Rattle.xm_design.specs.declared.fault.NetFault.{NetFault}
 use Rattle.xm_design.specs.declared.fault.NetFault.TheVariants as net_faults
+use Rattle.xm_flow.specs.Holding.{most_pairs, pair_count}
+use Rattle.xm_flow.specs.declared.build.FlowFault.{FlowFault}
+use Rattle.xm_flow.specs.declared.build.FlowFault.TheVariants as flow_faults
 use Rattle.xm_model.specs.Naming.{Allowed, Naming}
 use Rattle.xm_model.specs.Net.{Network}
 use Rattle.xm_shape.specs.Fault.{Fault}
@@ -19,6 +22,7 @@ use Rattle.xm_tape.specs.declared.fault.TapeFault.{TapeFault}
 use Rattle.xm_tape.specs.declared.fault.TapeFault.TheVariants as tape_faults
 use Rattle.xm_commands.specs.Output.{IsDesignOf}
 use Rattle.xm_commands.specs.Refusal.{Refuses, of_colour, of_document, of_loop, of_tape}
+use Rattle.xm_commands.specs.Inner.Invariants.{IsFlowFault}
 use Rattle.xm_commands.specs.Inner.WhyEnded.{Change, IsCause, IsUnharmed, IsUntouched}
 use Rattle.xm_commands.specs.Inner.Prepared.{IsNetFault, IsRefusedAs, is_of_wiring, is_want, is_want_of_tape, net_fault_line}
 use Rattle.xm_commands.specs.declared.command.Command.{Command}
@@ -69,6 +73,11 @@ net_fault r net allow (net_faults.Allow f) is refused looped = refused f is
 net_fault r net allow (net_faults.CombLoop f) is refused looped = looped f is
 net_fault r net allow net_faults.OutOfMemory is refused looped = tt
 
+-- the fault of a net that has no flow rows, from the clause of the call that makes them
+pub flow_fault : {T : Type 0} (r : Result T FlowFault) (design : Designed) (fault : FlowFault) → r ≡ Err fault → ((n : ℕ) → r ≡ Err (flow_faults.TooWide n) → (n ≡ pair_count design) × (most_pairs < n)) → IsFlowFault design fault
+flow_fault r design (flow_faults.TooWide n) is wide = wide n is
+flow_fault r design flow_faults.OutOfMemory is wide = tt
+
 -- the line is that of the tape's fault
 abbrev pub TapeLines : TapeFault → List ℕ → Type 0
 TapeLines fault line = (it : tape.Fault) → reading.fault_of fault ≡ Some it → line ≡ tape_line it
@@ -86,6 +95,7 @@ refused_cause bytes it sink refusal.Words is same unharmed = is
 refused_cause bytes it sink (refusal.Document line) is same unharmed = (is, same)
 refused_cause bytes it sink (refusal.Net line) is same unharmed = (is, same)
 refused_cause bytes it sink (refusal.Tape line) is same unharmed = (is, same)
+refused_cause bytes it sink (refusal.Proof line) is same unharmed = (is, same)
 refused_cause bytes it sink (refusal.Overflow line) is same unharmed = (is, same)
 refused_cause bytes it sink refusal.Read is same unharmed = is
 refused_cause bytes it sink refusal.Write is same unharmed = absurd is

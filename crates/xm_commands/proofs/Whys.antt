@@ -5,10 +5,14 @@ use Rattle.std.proofs.Common.{◌⊎◌, inl, inr}
 use Rattle.std.specs.Prelude.{IsSomeAnd}
 use Rattle.xm_commands.proofs.OneAnswer.{excludes}
 use Rattle.xm_commands.specs.Output.{IsOutput}
-use Rattle.xm_commands.specs.Status.{Gave, IsRefused, IsTold, Prints, PrintsFront, Tells, is_of_input, is_status, line_of, most_bytes, status_of}
+use Rattle.xm_commands.specs.Status.{Gave, IsRefused, IsTold, Prints, PrintsFront, Tells, is_done, is_of_input, is_status, line_of, most_bytes}
+use Rattle.xm_commands.specs.Status.{outcome_status, status_of}
 use Rattle.xm_commands.specs.Status as plain
 use Rattle.xm_commands.specs.Inner.WhyEnded.{Change, HasAnswered, HasEnded, IsUnharmed, IsUntouched, IsWhy, IsWhyCalled}
+use Rattle.xm_commands.specs.OneAnswer.{OneOutput}
 use Rattle.xm_commands.specs.declared.command.Command.{Command}
+use Rattle.xm_commands.specs.declared.command.Outcome.{Outcome}
+use Rattle.xm_commands.specs.declared.command.Outcome.TheVariants as outcome
 use Rattle.xm_commands.specs.declared.refusal.Refusal.{Refusal}
 use Rattle.xm_commands.specs.declared.refusal.Refusal.TheVariants as refusal
 use Rattle.xm_elim.specs.Elimination.{ExclusiveEnds}
@@ -22,13 +26,14 @@ pub ok_is_no_err : {T E : Type 0} (x : T) (e : E) → Ok x ≢ Err e
 ok_is_no_err x e = λ same. cc
 
 -- the command has ended for the bytes that were read
-pub read_whole : {T S K : Type 0} (it : Command) (source : Change S) (sink : Change K) (bytes : List ℕ) (r : Result T Refusal) → Gave source.bytes_before source.bytes_after bytes → IsUnharmed source
+pub read_whole : {S K : Type 0} (it : Command) (source : Change S) (sink : Change K) (bytes : List ℕ) (r : Result Outcome Refusal) → Gave source.bytes_before source.bytes_after bytes → IsUnharmed source
     → HasAnswered bytes it sink r → HasEnded (Some it) source sink r
-read_whole it source sink bytes (Ok done) gave unharmed answered = (record { bytes = bytes; gave = gave; printed = answered.0 }, unharmed, answered.1)
+read_whole it source sink bytes (Ok turned) gave unharmed answered = (record { bytes = bytes; gave = gave; printed = answered.0 }, unharmed, answered.1)
 read_whole it source sink bytes (Err refusal.Words) gave unharmed answered = answered
 read_whole it source sink bytes (Err (refusal.Document line)) gave unharmed answered = record { bytes = bytes; gave = gave; refused = answered.0; unharmed = unharmed; quiet = answered.1 }
 read_whole it source sink bytes (Err (refusal.Net line)) gave unharmed answered = record { bytes = bytes; gave = gave; refused = answered.0; unharmed = unharmed; quiet = answered.1 }
 read_whole it source sink bytes (Err (refusal.Tape line)) gave unharmed answered = record { bytes = bytes; gave = gave; refused = answered.0; unharmed = unharmed; quiet = answered.1 }
+read_whole it source sink bytes (Err (refusal.Proof line)) gave unharmed answered = record { bytes = bytes; gave = gave; refused = answered.0; unharmed = unharmed; quiet = answered.1 }
 read_whole it source sink bytes (Err (refusal.Overflow line)) gave unharmed answered = record { bytes = bytes; gave = gave; refused = answered.0; unharmed = unharmed; quiet = answered.1 }
 read_whole it source sink bytes (Err refusal.Read) gave unharmed answered = absurd answered
 read_whole it source sink bytes (Err refusal.Write) gave unharmed answered = (answered.0, unharmed, record { bytes = bytes; gave = gave; printed = answered.1 })
@@ -97,6 +102,7 @@ module _ {S K : Type 0} (source : Change S) (sink : Change K) where
   why_read_unharmed (Some it) (refusal.Document line) why other = why.unharmed
   why_read_unharmed (Some it) (refusal.Net line) why other = why.unharmed
   why_read_unharmed (Some it) (refusal.Tape line) why other = why.unharmed
+  why_read_unharmed (Some it) (refusal.Proof line) why other = why.unharmed
   why_read_unharmed (Some it) (refusal.Overflow line) why other = why.unharmed
   why_read_unharmed (Some it) refusal.Read why other = absurd (other refl)
   why_read_unharmed (Some it) refusal.Write why other = why.1
@@ -119,6 +125,7 @@ module _ {S K : Type 0} (source : Change S) (sink : Change K) where
   why_write_unharmed (Some it) (refusal.Document line) why harmless other = harmless why.quiet
   why_write_unharmed (Some it) (refusal.Net line) why harmless other = harmless why.quiet
   why_write_unharmed (Some it) (refusal.Tape line) why harmless other = harmless why.quiet
+  why_write_unharmed (Some it) (refusal.Proof line) why harmless other = harmless why.quiet
   why_write_unharmed (Some it) (refusal.Overflow line) why harmless other = harmless why.quiet
   why_write_unharmed (Some it) refusal.Read why harmless other = harmless why.2
   why_write_unharmed (Some it) refusal.Write why harmless other = absurd (other refl)
@@ -131,6 +138,7 @@ module _ {S K : Type 0} (source : Change S) (sink : Change K) where
   why_quiet (Some it) (refusal.Document line) why not_write not_memory = why.quiet
   why_quiet (Some it) (refusal.Net line) why not_write not_memory = why.quiet
   why_quiet (Some it) (refusal.Tape line) why not_write not_memory = why.quiet
+  why_quiet (Some it) (refusal.Proof line) why not_write not_memory = why.quiet
   why_quiet (Some it) (refusal.Overflow line) why not_write not_memory = why.quiet
   why_quiet (Some it) refusal.Read why not_write not_memory = why.2
   why_quiet (Some it) refusal.Write why not_write not_memory = absurd (not_write refl)
@@ -152,6 +160,7 @@ module _ {S K : Type 0} (source : Change S) (sink : Change K) where
     why_refused (refusal.Document line) held now before after why told is = record { bytes = why.bytes; gave = why.gave; line = line.items; refused = why.refused; told = told }
     why_refused (refusal.Net line) held now before after why told is = record { bytes = why.bytes; gave = why.gave; line = line.items; refused = why.refused; told = told }
     why_refused (refusal.Tape line) held now before after why told is = record { bytes = why.bytes; gave = why.gave; line = line.items; refused = why.refused; told = told }
+    why_refused (refusal.Proof line) held now before after why told is = record { bytes = why.bytes; gave = why.gave; line = line.items; refused = why.refused; told = told }
     why_refused (refusal.Overflow line) held now before after why told is = record { bytes = why.bytes; gave = why.gave; line = line.items; refused = why.refused; told = told }
     why_refused _ held now before after why told is = cc
 
@@ -186,14 +195,48 @@ not_longer limit (Some xs) (Some ys) bytes is within more =
     omega (arith, within, more.1, ap length same, ap length more.2, length-append more.0 ys)
 
 module _ {S K : Type 0} (it : Command) (source : Change S) (sink : Change K) where
-  pub why_complete : NoLoop → ExclusiveEnds → (bytes text : List ℕ) → source.bytes_before ≡ Some bytes → length bytes ≤ most_bytes → IsOutput bytes it text → (Rose source.faults_before source.faults_after → ⊥)
+  pub why_complete : NoLoop → ExclusiveEnds → (bytes text : List ℕ) (turned : Outcome) → source.bytes_before ≡ Some bytes → length bytes ≤ most_bytes → IsOutput bytes it turned text → (Rose source.faults_before source.faults_after → ⊥)
       → (Rose sink.faults_before sink.faults_after → ⊥) → (r : Refusal) → IsWhy it source sink r → status_of r ≡ 9
-  why_complete none exclusive bytes text is within output no_read no_write refusal.Words why = absurd why
-  why_complete none exclusive bytes text is within output no_read no_write (refusal.Document line) why = absurd (excludes none exclusive why.refused (subst (λ (x : List ℕ). IsOutput x it text) (sym (same_bytes source.bytes_before source.bytes_after bytes why.bytes is why.gave.whole)) output))
-  why_complete none exclusive bytes text is within output no_read no_write (refusal.Net line) why = absurd (excludes none exclusive why.refused (subst (λ (x : List ℕ). IsOutput x it text) (sym (same_bytes source.bytes_before source.bytes_after bytes why.bytes is why.gave.whole)) output))
-  why_complete none exclusive bytes text is within output no_read no_write (refusal.Tape line) why = absurd (excludes none exclusive why.refused (subst (λ (x : List ℕ). IsOutput x it text) (sym (same_bytes source.bytes_before source.bytes_after bytes why.bytes is why.gave.whole)) output))
-  why_complete none exclusive bytes text is within output no_read no_write (refusal.Overflow line) why = absurd (excludes none exclusive why.refused (subst (λ (x : List ℕ). IsOutput x it text) (sym (same_bytes source.bytes_before source.bytes_after bytes why.bytes is why.gave.whole)) output))
-  why_complete none exclusive bytes text is within output no_read no_write refusal.Read why = absurd (no_read why.0)
-  why_complete none exclusive bytes text is within output no_read no_write refusal.Write why = absurd (no_write why.0)
-  why_complete none exclusive bytes text is within output no_read no_write refusal.Memory why = refl
-  why_complete none exclusive bytes text is within output no_read no_write refusal.TooLong why = absurd (not_longer most_bytes source.bytes_before source.bytes_after bytes is within why.0)
+  why_complete none exclusive bytes text turned is within output no_read no_write refusal.Words why = absurd why
+  why_complete none exclusive bytes text turned is within output no_read no_write (refusal.Document line) why = absurd (excludes none exclusive why.refused (subst (λ (x : List ℕ). IsOutput x it turned text) (sym (same_bytes source.bytes_before source.bytes_after bytes why.bytes is why.gave.whole)) output))
+  why_complete none exclusive bytes text turned is within output no_read no_write (refusal.Net line) why = absurd (excludes none exclusive why.refused (subst (λ (x : List ℕ). IsOutput x it turned text) (sym (same_bytes source.bytes_before source.bytes_after bytes why.bytes is why.gave.whole)) output))
+  why_complete none exclusive bytes text turned is within output no_read no_write (refusal.Tape line) why = absurd (excludes none exclusive why.refused (subst (λ (x : List ℕ). IsOutput x it turned text) (sym (same_bytes source.bytes_before source.bytes_after bytes why.bytes is why.gave.whole)) output))
+  why_complete none exclusive bytes text turned is within output no_read no_write (refusal.Proof line) why = absurd (excludes none exclusive why.refused (subst (λ (x : List ℕ). IsOutput x it turned text) (sym (same_bytes source.bytes_before source.bytes_after bytes why.bytes is why.gave.whole)) output))
+  why_complete none exclusive bytes text turned is within output no_read no_write (refusal.Overflow line) why = absurd (excludes none exclusive why.refused (subst (λ (x : List ℕ). IsOutput x it turned text) (sym (same_bytes source.bytes_before source.bytes_after bytes why.bytes is why.gave.whole)) output))
+  why_complete none exclusive bytes text turned is within output no_read no_write refusal.Read why = absurd (no_read why.0)
+  why_complete none exclusive bytes text turned is within output no_read no_write refusal.Write why = absurd (no_write why.0)
+  why_complete none exclusive bytes text turned is within output no_read no_write refusal.Memory why = refl
+  why_complete none exclusive bytes text turned is within output no_read no_write refusal.TooLong why = absurd (not_longer most_bytes source.bytes_before source.bytes_after bytes is within why.0)
+
+-- ---- what an output says of each clause
+
+same_outcome : (a b : Outcome) → outcome_status a ≡ outcome_status b → a ≡ b
+same_outcome outcome.Yes outcome.Yes same = refl
+same_outcome outcome.No outcome.No same = refl
+same_outcome _ _ same = absurd (omega arith)
+
+module _ {S K : Type 0} (source : Change S) (sink : Change K) (called : Option Command) (it : Command) (said turned : Outcome) where
+  pub done_written : IsSomeAnd called (λ (it : Command). Prints it said source.bytes_before source.bytes_after sink.bytes_before sink.bytes_after) → called ≡ Some it → outcome_status said ≡ outcome_status turned
+      → Prints it turned source.bytes_before source.bytes_after sink.bytes_before sink.bytes_after
+  done_written is same status =
+      subst (λ (o : Outcome). Prints it o source.bytes_before source.bytes_after sink.bytes_before sink.bytes_after) (same_outcome said turned status)
+      (called_is (λ (it : Command). Prints it said source.bytes_before source.bytes_after sink.bytes_before sink.bytes_after) called it is same)
+
+  pub done_complete : OneOutput → (bytes text : List ℕ) → IsSomeAnd called (λ (it : Command). Prints it said source.bytes_before source.bytes_after sink.bytes_before sink.bytes_after) → called ≡ Some it
+      → source.bytes_before ≡ Some bytes → IsOutput bytes it turned text → outcome_status said ≡ outcome_status turned
+  done_complete one bytes text is same read output =
+      let prints = called_is (λ (it : Command). Prints it said source.bytes_before source.bytes_after sink.bytes_before sink.bytes_after) called it is same in
+      let bytes_same = same_bytes source.bytes_before source.bytes_after bytes prints.bytes read prints.gave.whole in
+      ap outcome_status (one bytes it said turned prints.printed.0 text (subst (λ (x : List ℕ). IsOutput x it said prints.printed.0) bytes_same prints.printed.1) output).0
+
+-- no refusal has the status of an output
+pub refused_not_done : (r : Refusal) → is_done (status_of r) ≡ false
+refused_not_done refusal.Words = refl
+refused_not_done _ = refl
+
+done_outcome : (o : Outcome) → is_done (outcome_status o) ≡ true
+done_outcome outcome.Yes = refl
+done_outcome outcome.No = refl
+
+pub why_not_done : (r : Refusal) (o : Outcome) → status_of r ≡ outcome_status o → ⊥
+why_not_done r o same = let no = refused_not_done r in let yes = ap is_done same ∙ done_outcome o in cc

@@ -2,4 +2,5 @@
 pub mod Invariants
 pub mod Prepared
 pub mod RunSoFar
+pub mod Verifying
 pub mod WhyEnded

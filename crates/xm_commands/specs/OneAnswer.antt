@@ -3,21 +3,23 @@ use Rattle.std.specs.Prelude.{◌≡◌, ◌⊎◌, ℕ, List, Ok}
 use Rattle.xm_commands.specs.Output.{IsOutput}
 use Rattle.xm_commands.specs.Refusal.{Refuses}
 use Rattle.xm_commands.specs.declared.command.Command.{Command}
+use Rattle.xm_commands.specs.declared.command.Outcome.{Outcome}
 use Rattle.xm_design.specs.Designed.{IsLoopRefused}
 use Rattle.xm_netlist.specs.Doc.{Doc}
 use Rattle.xm_netlist.specs.Reading.{document_in}
 use Rattle.xm_order.specs.declared.signal.Signal.{Signal}
 use Rattle.xm_report.specs.Lines.{loop_line}
 
--- A command has at most one output for given bytes.
+-- A command has at most one output for given bytes, and it turns out in one way.
 abbrev pub OneOutput : Type 0
-OneOutput = (bytes : List ℕ) (it : Command) (text other_text : List ℕ) → IsOutput bytes it text
-    → IsOutput bytes it other_text → text ≡ other_text
+OneOutput = (bytes : List ℕ) (it : Command) (turned other_turned : Outcome) (text other_text : List ℕ)
+    → IsOutput bytes it turned text → IsOutput bytes it other_turned other_text
+    → (turned ≡ other_turned) × (text ≡ other_text)
 
 -- Bytes that a command refuses have no output.
 abbrev pub NoOutputOfRefused : Type 0
-NoOutputOfRefused = (bytes : List ℕ) (it : Command) (status : ℕ) (line text : List ℕ) → Refuses bytes it status line
-    → IsOutput bytes it text → ⊥
+NoOutputOfRefused = (bytes : List ℕ) (it : Command) (status : ℕ) (turned : Outcome) (line text : List ℕ)
+    → Refuses bytes it status line → IsOutput bytes it turned text → ⊥
 
 -- the line names a loop of the document that the bytes are
 pub record NamesLoop (bytes line : List ℕ) : Type 0 where

@@ -1,9 +1,12 @@
 -- What a command prints for the bytes of a document.
-use Rattle.std.specs.Prelude.{◌≡◌, ◌≤◌, ℕ, List, Ok}
+use Rattle.std.specs.Prelude.{◌≡◌, ◌≤◌, ℕ, List, Result, Ok}
+use Rattle.xm_check.specs.Break.{IsVerdict}
 use Rattle.xm_colours.specs.Allowing.{AllowsAll}
 use Rattle.xm_colours.specs.Family.{colours_at}
 use Rattle.xm_commands.specs.declared.command.Command.{Command}
 use Rattle.xm_commands.specs.declared.command.Command.TheVariants as command
+use Rattle.xm_commands.specs.declared.command.Outcome.{Outcome}
+use Rattle.xm_commands.specs.declared.command.Outcome.TheVariants as outcome
 use Rattle.xm_design.specs.Designed.{Designed, IsDesigned}
 use Rattle.xm_elim.specs.Basis.{IsReducedBasis}
 use Rattle.xm_elim.specs.Elimination.{EndsWith}
@@ -11,9 +14,17 @@ use Rattle.xm_flow.specs.FlowRows.{Flow, IsKept}
 use Rattle.xm_flow.specs.Holding.{IsFlowOf, most_pairs, pair_count, queue_pair_count}
 use Rattle.xm_flow.specs.ValidLemma.{Lemma}
 use Rattle.xm_netlist.specs.Doc.{Doc}
+use Rattle.xm_json.specs.Path.{Path}
 use Rattle.xm_netlist.specs.Reading.{document_in}
+use Rattle.xm_persist.specs.Rights.{AllGranted}
+use Rattle.xm_proof.specs.Argument.{Argument}
+use Rattle.xm_proof.specs.declared.verdict.Verdict.{Verdict}
+use Rattle.xm_proof.specs.declared.verdict.Verdict.TheVariants as verdict
+use Rattle.xm_proof_reader.specs.Known.{known_by}
+use Rattle.xm_proof_reader.specs.Reading.{proof_in}
 use Rattle.xm_report.specs.Check.{check_text}
 use Rattle.xm_report.specs.Invariants.{invariant_text}
+use Rattle.xm_report.specs.Verdict.{verdict_text}
 use Rattle.xm_tape.specs.Reading.{tape_in}
 use Rattle.xm_tape.specs.Taped.{Taped}
 use Rattle.xm_trace.specs.Text.{IsTextOfRun}
@@ -37,13 +48,35 @@ pub record AreInvariants (design : Designed) (lemmas : List Lemma) : Type 0 wher
   pub left : EndsWith (pair_count design) (queue_pair_count design) rows.rows lemmas
   pub basis : IsReducedBasis (pair_count design) (queue_pair_count design) rows.rows lemmas
 
--- The output of a command for the bytes of a document: of `check` the sizes and colours of its design, of `run` the
--- text of the run of its tape, and of `inv` that of its invariants.
-pub data IsOutput (bytes : List ℕ) : Command → List ℕ → Type 0 where
+-- the document's proof, with the names of its design, or the path where its form is first broken
+abbrev pub proof_of : Doc → Designed → Result Argument Path
+proof_of doc design = proof_in (known_by design doc.names) doc.proof
+
+-- what is said of the document's proof over the flow rows of its design, each of whose channels is granted a
+-- persistent initiator
+pub record IsVerdictOf (doc : Doc) (design : Designed) (said : Verdict) : Type 0 where
+  pub argument : Argument
+  pub proof : proof_of doc design ≡ Ok argument
+  pub granted : AllGranted design.net
+  pub rows : Flow
+  pub has_flow : HasFlow design rows
+  pub is_verdict : IsVerdict design rows.rows argument said
+
+abbrev pub outcome_of : Verdict → Outcome
+outcome_of verdict.Yes = outcome.Yes
+outcome_of (verdict.No at why) = outcome.No
+
+-- The output of a command for the bytes of a document, and how it turned out: of `check` the sizes and colours of its
+-- design, of `run` the text of the run of its tape, of `inv` that of its invariants, and of `verify` the verdict on its
+-- proof, which may be no.
+pub data IsOutput (bytes : List ℕ) : Command → Outcome → List ℕ → Type 0 where
   of_check : (doc : Doc) (design : Designed) → document_in bytes ≡ Ok doc → IsDesignOf doc design
-      → IsOutput bytes command.Check (check_text doc.names design)
+      → IsOutput bytes command.Check outcome.Yes (check_text doc.names design)
   of_run : (doc : Doc) (design : Designed) (tape : Taped) (text : List ℕ) → document_in bytes ≡ Ok doc
       → IsDesignOf doc design → tape_in doc.net doc.tape ≡ Ok tape → IsTextOfRun doc.net doc.names tape text
-      → IsOutput bytes command.Run text
+      → IsOutput bytes command.Run outcome.Yes text
   of_inv : (doc : Doc) (design : Designed) (lemmas : List Lemma) → document_in bytes ≡ Ok doc → IsDesignOf doc design
-      → AreInvariants design lemmas → IsOutput bytes command.Inv (invariant_text doc.names design lemmas)
+      → AreInvariants design lemmas
+      → IsOutput bytes command.Inv outcome.Yes (invariant_text doc.names design lemmas)
+  of_verify : (doc : Doc) (design : Designed) (said : Verdict) → document_in bytes ≡ Ok doc → IsDesignOf doc design
+      → IsVerdictOf doc design said → IsOutput bytes command.Verify (outcome_of said) (verdict_text said)

@@ -2,6 +2,7 @@
 use Rattle.std.specs.Prelude.{◌≡◌, ℕ, ◌≤◌, List, Ok, pos, All}
 use Rattle.xm_commands.specs.Output.{IsDesignOf, IsOutput}
 use Rattle.xm_commands.specs.declared.command.Command.TheVariants as command
+use Rattle.xm_commands.specs.declared.command.Outcome.{Outcome}
 use Rattle.xm_design.specs.Designed.{Designed}
 use Rattle.xm_flow.specs.Holding.{count_columns, count_value, point}
 use Rattle.xm_flow.specs.ValidLemma.{Lemma}
@@ -33,4 +34,5 @@ pub record PrintsHolding (bytes text : List ℕ) : Type 0 where
   pub hold : HoldOnRuns doc.net design lemmas
 
 abbrev pub PrintedHold : Type 0
-PrintedHold = (bytes text : List ℕ) → IsOutput bytes command.Inv text → PrintsHolding bytes text
+PrintedHold = (bytes text : List ℕ) (turned : Outcome) → IsOutput bytes command.Inv turned text
+    → PrintsHolding bytes text

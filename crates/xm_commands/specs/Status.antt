@@ -5,6 +5,8 @@ use Rattle.std.specs.Io.KnownBytes.{Appends}
 use Rattle.xm_commands.specs.Output.{IsOutput}
 use Rattle.xm_commands.specs.Refusal.{Refuses}
 use Rattle.xm_commands.specs.declared.command.Command.{Command}
+use Rattle.xm_commands.specs.declared.command.Outcome.{Outcome}
+use Rattle.xm_commands.specs.declared.command.Outcome.TheVariants as outcome
 use Rattle.xm_commands.specs.declared.refusal.Refusal.{Refusal}
 use Rattle.xm_commands.specs.declared.refusal.Refusal.TheVariants as refusal
 use Rattle.xm_io.specs.Bytes.{AppendsFront, ReadsWhole}
@@ -12,11 +14,17 @@ use Rattle.xm_io.specs.Faults.{Rose}
 
 -- ---- statuses and their lines
 
+-- the status of an output that was written whole
+abbrev pub outcome_status : Outcome → ℕ
+outcome_status outcome.Yes = 0
+outcome_status outcome.No = 1
+
 abbrev pub status_of : Refusal → ℕ
 status_of refusal.Words = 2
 status_of (refusal.Document line) = 3
 status_of (refusal.Net line) = 4
 status_of (refusal.Tape line) = 5
+status_of (refusal.Proof line) = 5
 status_of refusal.Read = 6
 status_of refusal.Write = 7
 status_of (refusal.Overflow line) = 8
@@ -28,6 +36,7 @@ line_of refusal.Words = codes "words\n"
 line_of (refusal.Document line) = line.items
 line_of (refusal.Net line) = line.items
 line_of (refusal.Tape line) = line.items
+line_of (refusal.Proof line) = line.items
 line_of refusal.Read = codes "read\n"
 line_of refusal.Write = codes "write\n"
 line_of (refusal.Overflow line) = line.items
@@ -37,10 +46,14 @@ line_of refusal.TooLong = codes "too long\n"
 -- the statuses that there are
 abbrev pub is_status : ℕ → Bool
 is_status n =
-    (n == 0) || (n == 2) || (n == 3) || (n == 4) || (n == 5) || (n == 6) || (n == 7) || (n == 8) || (n == 9)
-    || (n == 10)
+    (n == 0) || (n == 1) || (n == 2) || (n == 3) || (n == 4) || (n == 5) || (n == 6) || (n == 7) || (n == 8)
+    || (n == 9) || (n == 10)
 
--- the statuses of a document, its net, its tape and its invariants
+-- the statuses of an output that was written whole
+abbrev pub is_done : ℕ → Bool
+is_done n = (n == 0) || (n == 1)
+
+-- the statuses of a document, its net, its tape, its proof and its invariants
 abbrev pub is_of_input : ℕ → Bool
 is_of_input n = (n == 3) || (n == 4) || (n == 5) || (n == 8)
 
@@ -66,20 +79,21 @@ pub record Gave (left_before left_after : Option (List ℕ)) (bytes : List ℕ) 
 -- ---- what was written
 
 -- The output of the command for these bytes was appended whole, or a front of it was.
-abbrev pub PrintsWhole : List ℕ → Command → Option (List ℕ) → Option (List ℕ) → Type 0
-PrintsWhole bytes command held_before held_after =
-    (text : List ℕ) × IsOutput bytes command text × Appends held_before held_after text
+abbrev pub PrintsWhole : List ℕ → Command → Outcome → Option (List ℕ) → Option (List ℕ) → Type 0
+PrintsWhole bytes command turned held_before held_after =
+    (text : List ℕ) × IsOutput bytes command turned text × Appends held_before held_after text
 
 abbrev pub PrintsSome : List ℕ → Command → Option (List ℕ) → Option (List ℕ) → Type 0
 PrintsSome bytes command held_before held_after =
-    (text : List ℕ) × IsOutput bytes command text × AppendsFront held_before held_after text
+    (turned : Outcome) × (text : List ℕ) × IsOutput bytes command turned text
+    × AppendsFront held_before held_after text
 
 -- The source was read to its end, and the output for its bytes was appended whole.
-pub record Prints (command : Command) (left_before left_after : Option (List ℕ))
+pub record Prints (command : Command) (turned : Outcome) (left_before left_after : Option (List ℕ))
     (held_before held_after : Option (List ℕ)) : Type 0 where
   pub bytes : List ℕ
   pub gave : Gave left_before left_after bytes
-  pub printed : PrintsWhole bytes command held_before held_after
+  pub printed : PrintsWhole bytes command turned held_before held_after
 
 -- The source was read to its end, and a front of the output for its bytes was appended.
 pub record PrintsFront (command : Command) (left_before left_after : Option (List ℕ))

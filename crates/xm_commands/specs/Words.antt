@@ -11,7 +11,8 @@ abbrev pub command_named : List ℕ → Option Command
 command_named word =
     if bytes_eq word (codes "check") then Some command.Check
     else (if bytes_eq word (codes "run") then Some command.Run
-    else (if bytes_eq word (codes "inv") then Some command.Inv else None))
+    else (if bytes_eq word (codes "inv") then Some command.Inv
+    else (if bytes_eq word (codes "verify") then Some command.Verify else None)))
 
 -- the first word is a command, and those behind it are its options, of which these commands have none
 abbrev pub command_in : List (List ℕ) → Option Command

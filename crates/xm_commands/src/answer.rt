@@ -12,11 +12,12 @@ ghost use Rattle.xm_commands.specs.Inner.Prepared.{IsPrepared, IsRefusedAs, is_w
 ghost use Rattle.xm_commands.specs.Inner.WhyEnded.{HasAnswered, change};
 ghost use Rattle.xm_commands.specs.declared.command.Command.TheVariants as command;
 
-use crate::command::Command;
+use crate::command::{Command, Outcome};
 use crate::invariants::write_invariants;
 use crate::prepared::{Prepared, prepare};
 use crate::refusal::Refusal;
 use crate::running::write_run;
+use crate::verifying::write_verdict;
 use crate::writing::write_check;
 use std::alloc::Global;
 use xm_io::Sink;
@@ -46,7 +47,7 @@ fn tape_refusal(alloc: Global, fault: &TapeFault) -> Refusal
 }
 
 /// Reads the tape and writes the text of its run.
-fn answer_run<K: Sink>(alloc: Global, prepared: &Prepared, out: &mut K) -> Result<(), Refusal>
+fn answer_run<K: Sink>(alloc: Global, prepared: &Prepared, out: &mut K) -> Result<Outcome, Refusal>
     requires { IsNamed prepared.now.design.net (naming_of prepared.now.names) }
     ensures { (bytes : Items ℕ) → IsPrepared bytes prepared.now
         → HasAnswered bytes command.Run (change K.held K.faults out.old out.new) result }
@@ -65,7 +66,7 @@ fn answer_prepared<K: Sink>(
     command: Command,
     prepared: &Prepared,
     out: &mut K,
-) -> Result<(), Refusal>
+) -> Result<Outcome, Refusal>
     requires { IsNamed prepared.now.design.net (naming_of prepared.now.names) }
     ensures { (bytes : Items ℕ) → IsPrepared bytes prepared.now
         → HasAnswered bytes command (change K.held K.faults out.old out.new) result }
@@ -74,17 +75,18 @@ fn answer_prepared<K: Sink>(
         Command::Check => write_check(alloc, prepared, out),
         Command::Run => answer_run(alloc, prepared, out),
         Command::Inv => write_invariants(alloc, prepared, out),
+        Command::Verify => write_verdict(alloc, prepared, out),
     }
 }
 
-/// Writes the command's output for the bytes. A refusal for the document, its net, its tape or its invariants
-/// leaves `out`.
+/// Writes the command's output for the bytes. A refusal for the document, its net, its tape, its proof or its
+/// invariants leaves `out`.
 pub fn answer<K: Sink>(
     alloc: Global,
     command: Command,
     bytes: &[u8],
     out: &mut K,
-) -> Result<(), Refusal>
+) -> Result<Outcome, Refusal>
     ensures { HasAnswered bytes.now command (change K.held K.faults out.old out.new) result }
 {
     match prepare(alloc, bytes) {

@@ -8,12 +8,21 @@ use xm_io::Words;
 use xm_model::OutOfMemory;
 use xm_options::read_options;
 
-/// What the program does: print the sizes and colours of a net, the run of its tape, or its invariants.
+/// What the program does: print the sizes and colours of a net, the run of its tape, its invariants, or the
+/// verdict on its proof.
 #[derive(Clone, Copy, PartialEq, Eq, Debug)]
 pub enum Command {
     Check,
     Run,
     Inv,
+    Verify,
+}
+
+/// How an output turned out: a verdict that is no is `No`, and any other output is `Yes`.
+#[derive(Clone, Copy, PartialEq, Eq, Debug)]
+pub enum Outcome {
+    Yes,
+    No,
 }
 
 fn named(word: &[u8]) -> Option<Command>
@@ -25,6 +34,8 @@ fn named(word: &[u8]) -> Option<Command>
         Some(Command::Run)
     } else if word == b"inv".as_slice() {
         Some(Command::Inv)
+    } else if word == b"verify".as_slice() {
+        Some(Command::Verify)
     } else {
         None
     }

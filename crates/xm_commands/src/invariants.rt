@@ -5,6 +5,7 @@ ghost use Rattle.xm_commands.specs.Inner.Invariants.{IsFlowFault, IsOverflow};
 ghost use Rattle.xm_commands.specs.Inner.Prepared.{IsPrepared, IsRefusedAs};
 ghost use Rattle.xm_commands.specs.Inner.WhyEnded.{HasAnswered, change};
 ghost use Rattle.xm_commands.specs.Output.{AreInvariants, HasFlow, IsDesignOf};
+ghost use Rattle.xm_commands.specs.Refusal.{AsksForFlow};
 ghost use Rattle.xm_commands.specs.declared.command.Command.TheVariants as command;
 ghost use Rattle.xm_design.specs.Designed.{Designed};
 ghost use Rattle.xm_flow.specs.FlowRows.{Flow};
@@ -12,6 +13,7 @@ ghost use Rattle.xm_flow.specs.ValidLemma.{lemma_of};
 ghost use Rattle.xm_netlist.specs.Doc.{Doc};
 ghost use Rattle.xm_netlist.specs.Reading.{document_in};
 
+use crate::command::{Command, Outcome};
 use crate::prepared::Prepared;
 use crate::refusal::Refusal;
 use crate::writing::write_text;
@@ -23,9 +25,10 @@ use xm_model::OutOfMemory;
 use xm_report::{invariant_text, overflow_line, width_line};
 
 /// The refusal of a net without flow rows.
-fn flow_refusal(alloc: Global, fault: FlowFault) -> Refusal
-    ensures { (bytes : Items ℕ) (doc : Doc) (design : Designed) → document_in bytes ≡ Ok doc → IsDesignOf doc design
-        → IsFlowFault design fault → IsRefusedAs bytes command.Inv result }
+pub fn flow_refusal(alloc: Global, fault: FlowFault) -> Refusal
+    ensures { (bytes : Items ℕ) (it : Command) (doc : Doc) (design : Designed) → document_in bytes ≡ Ok doc
+        → IsDesignOf doc design → AsksForFlow it doc design → IsFlowFault design fault
+        → IsRefusedAs bytes it result }
 {
     match fault {
         FlowFault::TooWide(pairs) => match width_line(alloc, pairs) {
@@ -57,13 +60,13 @@ fn write_invariant_text<K: Sink>(
     prepared: &Prepared,
     lemmas: &[Invariant],
     out: &mut K,
-) -> Result<(), Refusal>
+) -> Result<Outcome, Refusal>
     requires { AreInvariants prepared.now.design (map lemma_of lemmas.now) }
     ensures { (bytes : Items ℕ) → IsPrepared bytes prepared.now
         → HasAnswered bytes command.Inv (change K.held K.faults out.old out.new) result }
 {
     match invariant_text(alloc, &prepared.names, &prepared.design, lemmas) {
-        Ok(text) => write_text(out, &text),
+        Ok(text) => write_text(out, &text, Outcome::Yes),
         Err(OutOfMemory) => Err(Refusal::Memory),
     }
 }
@@ -74,7 +77,7 @@ fn write_lemmas<K: Sink>(
     prepared: &Prepared,
     rows: &FlowRows,
     out: &mut K,
-) -> Result<(), Refusal>
+) -> Result<Outcome, Refusal>
     requires { HasFlow prepared.now.design rows.now }
     ensures { (bytes : Items ℕ) → IsPrepared bytes prepared.now
         → HasAnswered bytes command.Inv (change K.held K.faults out.old out.new) result }
@@ -90,7 +93,7 @@ pub fn write_invariants<K: Sink>(
     alloc: Global,
     prepared: &Prepared,
     out: &mut K,
-) -> Result<(), Refusal>
+) -> Result<Outcome, Refusal>
     ensures { (bytes : Items ℕ) → IsPrepared bytes prepared.now
         → HasAnswered bytes command.Inv (change K.held K.faults out.old out.new) result }
 {

@@ -2,17 +2,20 @@
 
 ghost use Rattle.xm_commands.specs.OneAnswer.{NoOutputOfRefused, OneOutput, OneRefusal};
 ghost use Rattle.xm_commands.specs.PrintedInvariants.{PrintedHold};
+ghost use Rattle.xm_commands.specs.VerifiedProof.{VerifiedHold};
 
+use xm_check::{one_verdict, proofs_hold};
 use xm_elim::{ends_exclude, one_end, one_overflow};
 use xm_flow::lemmas_hold;
 use xm_order::{no_loop, one_run};
 
-/// A command has at most one output for given bytes.
+/// A command has at most one output for given bytes, and it turns out in one way.
 pub fn one_output()
     ensures { OneOutput }
 {
     one_run();
     one_end();
+    one_verdict();
 }
 
 /// Bytes that a command refuses have no output.
@@ -37,4 +40,11 @@ pub fn printed_invariants_hold()
     ensures { PrintedHold }
 {
     lemmas_hold();
+}
+
+/// Where `verify` says yes of a document, no channel of its net jams on a fair repeating run from reset.
+pub fn verified_nets_hold()
+    ensures { VerifiedHold }
+{
+    proofs_hold();
 }

@@ -10,9 +10,12 @@ mod prepared;
 mod refusal;
 mod running;
 mod top;
+mod verifying;
 mod writing;
 
-pub use command::Command;
-pub use laws::{no_output_of_refused, one_output, one_refusal, printed_invariants_hold};
+pub use command::{Command, Outcome};
+pub use laws::{
+    no_output_of_refused, one_output, one_refusal, printed_invariants_hold, verified_nets_hold,
+};
 pub use refusal::{Refusal, refuse};
 pub use top::plain;

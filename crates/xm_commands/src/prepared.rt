@@ -16,12 +16,13 @@ use xm_model::{Names, OutOfMemory, Text};
 use xm_netlist::{DocFault, Document, read_document};
 use xm_report::{colour_line, document_line, loop_line};
 
-/// A document whose net was checked: its design, the names of what it numbers, and its tape.
+/// A document whose net was checked: its design, the names of what it numbers, its tape and its proof.
 #[derive(Drop)]
 pub struct Prepared {
     pub design: Design,
     pub names: Names,
     pub tape: Option<Value>,
+    pub proof: Option<Value>,
 }
 
 fn is_memory(fault: &DocFault) -> bool
@@ -87,13 +88,14 @@ fn designed(alloc: Global, document: Document) -> Result<Prepared, Refusal>
         names,
         allow,
         tape,
-        proof: _proof,
+        proof,
     } = document;
     match Design::new(alloc, net, &allow) {
         Ok(design) => Ok(Prepared {
             design,
             names,
             tape,
+            proof,
         }),
         Err(fault) => Err(net_refusal(alloc, &names, &fault)),
     }

@@ -14,10 +14,13 @@ pub enum Refusal {
     Words,
     /// The bytes are no document: the line of its first fault.
     Document(Text),
-    /// The net is not well wired, has a colour that is not allowed, has a loop, or is too wide: the line of that.
+    /// The net is not well wired, has a colour that is not allowed, has a loop, has a channel that is not granted a
+    /// persistent initiator, or is too wide: the line of that.
     Net(Text),
     /// The tape has a fault: its line.
     Tape(Text),
+    /// The proof's form is broken: the line of its first break.
+    Proof(Text),
     /// The elimination of the moves left 128 bits: the line of that.
     Overflow(Text),
     /// A call of the source failed.
@@ -46,6 +49,7 @@ fn line(refusal: &Refusal) -> &[u8]
         Refusal::Document(line)
         | Refusal::Net(line)
         | Refusal::Tape(line)
+        | Refusal::Proof(line)
         | Refusal::Overflow(line) => line.as_bytes(),
         Refusal::Read => b"read\n",
         Refusal::Write => b"write\n",
@@ -61,7 +65,7 @@ fn status(refusal: &Refusal) -> u8
         Refusal::Words => 2,
         Refusal::Document(_) => 3,
         Refusal::Net(_) => 4,
-        Refusal::Tape(_) => 5,
+        Refusal::Tape(_) | Refusal::Proof(_) => 5,
         Refusal::Read => 6,
         Refusal::Write => 7,
         Refusal::Overflow(_) => 8,

@@ -1,6 +1,6 @@
 //! A run that is written round by round.
 
-ghost use Rattle.std.specs.Prelude.{◌≡◌, ◌+◌, ◌-◌, ◌*◌, ◌^◌, ◌<◌, ◌≤◌, ℕ, List as Items, IfErr, OnErr, OnOk, length};
+ghost use Rattle.std.specs.Prelude.{◌≡◌, ◌+◌, ◌-◌, ◌*◌, ◌^◌, ◌<◌, ◌≤◌, ℕ, List as Items, IfErr, IfOk, OnErr, OnOk, length};
 ghost use Rattle.std.specs.Io.KnownBytes.{Appends};
 ghost use Rattle.xm_io.specs.Bytes.{AppendsFront};
 ghost use Rattle.xm_commands.specs.Inner.RunSoFar.{IsBegun};
@@ -13,6 +13,7 @@ ghost use Rattle.xm_trace.specs.Runs.{IsRunOf};
 ghost use Rattle.xm_trace.specs.Text.{IsTextOfRun, round_lines};
 ghost use Rattle.xm_commands.specs.Inner.WhyEnded.{IsWriteFault};
 
+use crate::command::Outcome;
 use crate::refusal::Refusal;
 use crate::writing::{write_bytes, write_text};
 use std::alloc::Global;
@@ -104,12 +105,13 @@ fn write_rounds<K: Sink>(
     tape: &Tape,
     run: &mut RunSoFar,
     out: &mut K,
-) -> Result<(), Refusal>
+) -> Result<Outcome, Refusal>
     requires channels { length names.now.channels.items ≡ evaluator.now.net.channels }
     requires colours { length names.now.colours.items ≡ evaluator.now.net.colours }
     requires underway { IsBegun evaluator.now tape.now run.old }
     requires labels { AreLabelsOf (naming_of names.now) run.old.labels }
     requires begins { run.old.text.cycles ≡ 0 }
+    ensures turned { IfOk result (λ it. it ≡ Outcome.Yes) }
     ensures whole { (text : Items ℕ) → IsTextOfRun evaluator.now.net (naming_of names.now) tape.now text
         → OnOk result (Appends (K.held out.old) (K.held out.new) text) }
     ensures front { (text : Items ℕ) → IsTextOfRun evaluator.now.net (naming_of names.now) tape.now text
@@ -128,7 +130,7 @@ fn write_rounds<K: Sink>(
         write_round(alloc, evaluator, &mut rows, run, to, out)?;
     }
     let end = run.text.end(alloc, names)?;
-    write_text(out, &end)
+    write_text(out, &end, Outcome::Yes)
 }
 
 /// Runs the tape and writes its text round by round.
@@ -138,10 +140,11 @@ pub fn write_run<K: Sink>(
     names: &Names,
     tape: &Tape,
     out: &mut K,
-) -> Result<(), Refusal>
+) -> Result<Outcome, Refusal>
     requires channels { length names.now.channels.items ≡ design.now.net.channels }
     requires colours { length names.now.colours.items ≡ design.now.net.colours }
     requires room { cycles_of tape.now * design.now.net.channels < 2 ^ 32 }
+    ensures turned { IfOk result (λ it. it ≡ Outcome.Yes) }
     ensures whole { (text : Items ℕ) → IsTextOfRun design.now.net (naming_of names.now) tape.now text
         → OnOk result (Appends (K.held out.old) (K.held out.new) text) }
     ensures front { (text : Items ℕ) → IsTextOfRun design.now.net (naming_of names.now) tape.now text

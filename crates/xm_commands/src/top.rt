@@ -2,14 +2,16 @@
 
 ghost use Rattle.std.specs.Prelude.{◌≡◌, ◌≢◌, ◌⊎◌, ◌≤◌, ℕ, List as Items, None, Some, false, length, true};
 ghost use Rattle.xm_commands.specs.Output.{IsOutput};
-ghost use Rattle.xm_commands.specs.Status.{IsRefused, Prints, PrintsFront, Tells, is_of_input, is_status, most_bytes};
+ghost use Rattle.xm_commands.specs.Status.{IsRefused, Prints, PrintsFront, Tells, is_done, is_of_input, is_status};
+ghost use Rattle.xm_commands.specs.Status.{most_bytes, outcome_status};
 ghost use Rattle.xm_commands.specs.Inner.WhyEnded.{HasEnded, change};
 ghost use Rattle.xm_commands.specs.Words.{command_of};
 ghost use Rattle.xm_io.specs.Bytes.{TakesAtMost, TakesMoreThan};
 ghost use Rattle.xm_io.specs.Faults.{Rose};
 
 use crate::answer::answer;
-use crate::command::{Command, read_command};
+use crate::command::{Command, Outcome, read_command};
+use crate::laws::one_output;
 use crate::refusal::{Refusal, refuse};
 use std::alloc::Global;
 use xm_elim::ends_exclude;
@@ -26,7 +28,7 @@ fn obey<S: Source, K: Sink>(
     command: Command,
     source: &mut S,
     out: &mut K,
-) -> Result<(), Refusal>
+) -> Result<Outcome, Refusal>
     ensures { HasEnded (Some command) (change S.left S.faults source.old source.new)
         (change K.held K.faults out.old out.new) result }
 {
@@ -44,7 +46,7 @@ fn obey_words<S: Source, K: Sink>(
     words: &Words,
     source: &mut S,
     out: &mut K,
-) -> Result<(), Refusal>
+) -> Result<Outcome, Refusal>
     ensures { HasEnded (command_of words.now) (change S.left S.faults source.old source.new)
         (change K.held K.faults out.old out.new) result }
 {
@@ -56,12 +58,13 @@ fn obey_words<S: Source, K: Sink>(
 }
 
 /// The call that does all that the program does. It answers the status: 0 where the command's output was
-/// written whole; 2 where the words are no command; 3 where the source's bytes are no document; 4 where
-/// the net is not well wired, has a colour that is not allowed, has a loop of its signals, or for `inv` is
-/// too wide; 5 where the tape has a fault; 6 where the source failed; 7 where the output failed; 8 where the
-/// elimination for `inv` leaves 128 bits; 9 for want of memory; 10 where there are more than 16 MiB. Each
-/// status but 0 writes its line to `err`, whose faults change no status. The source's faults rise with
-/// status 6 alone, and the output's with 7 alone.
+/// written whole, and 1 where that output is a verdict that is no; 2 where the words are no command; 3 where the
+/// source's bytes are no document; 4 where the net is not well wired, has a colour that is not allowed, has a
+/// loop of its signals, for `verify` has a channel that is granted no persistent initiator, or for `inv` and
+/// `verify` is too wide; 5 where the tape has a fault, or the proof's form is broken; 6 where the source failed;
+/// 7 where the output failed; 8 where the elimination for `inv` leaves 128 bits; 9 for want of memory; 10 where
+/// there are more than 16 MiB. Each status but 0 and 1 writes its line to `err`, whose faults change no status.
+/// The source's faults rise with status 6 alone, and the output's with 7 alone.
 pub fn plain<S: Source, K: Sink, E: Sink>(
     alloc: Global,
     words: &Words,
@@ -81,27 +84,30 @@ pub fn plain<S: Source, K: Sink, E: Sink>(
     ensures read_within { result ≡ 6 → TakesAtMost most_bytes (S.left source.old) (S.left source.new) }
     ensures read_unharmed { result ≢ 6 → S.faults source.new ≡ S.faults source.old }
     ensures too_long { result ≡ 10 → TakesMoreThan most_bytes (S.left source.old) (S.left source.new) }
-    ensures written { (command : Command) → command_of words.now ≡ Some command → result ≡ 0
-        → Prints command (S.left source.old) (S.left source.new) (K.held out.old) (K.held out.new) }
+    ensures written { (command : Command) (turned : Outcome) → command_of words.now ≡ Some command
+        → result ≡ outcome_status turned
+        → Prints command turned (S.left source.old) (S.left source.new) (K.held out.old) (K.held out.new) }
     ensures write { result ≡ 7 → Rose (K.faults out.old) (K.faults out.new) }
     ensures write_unharmed { result ≢ 7 → K.faults out.new ≡ K.faults out.old }
     ensures front { (command : Command) → command_of words.now ≡ Some command → result ≡ 7
         → PrintsFront command (S.left source.old) (S.left source.new) (K.held out.old) (K.held out.new) }
     ensures memory { (command : Command) → command_of words.now ≡ Some command → result ≡ 9 → (out.new ≡ out.old)
         ⊎ PrintsFront command (S.left source.old) (S.left source.new) (K.held out.old) (K.held out.new) }
-    ensures quiet { result ≢ 0 → result ≢ 7 → result ≢ 9 → out.new ≡ out.old }
-    ensures complete { (command : Command) (bytes text : Items ℕ) → command_of words.now ≡ Some command
-        → S.left source.old ≡ Some bytes → length bytes ≤ most_bytes → IsOutput bytes command text
-        → ¬ (Rose (S.faults source.old) (S.faults source.new))
-        → ¬ (Rose (K.faults out.old) (K.faults out.new)) → (result ≡ 0) ⊎ (result ≡ 9) }
-    ensures silent { result ≡ 0 → err.new ≡ err.old }
-    ensures told { result ≢ 0 → is_of_input result ≡ false
+    ensures quiet { is_done result ≡ false → result ≢ 7 → result ≢ 9 → out.new ≡ out.old }
+    ensures complete { (command : Command) (turned : Outcome) (bytes text : Items ℕ)
+        → command_of words.now ≡ Some command → S.left source.old ≡ Some bytes → length bytes ≤ most_bytes
+        → IsOutput bytes command turned text → ¬ (Rose (S.faults source.old) (S.faults source.new))
+        → ¬ (Rose (K.faults out.old) (K.faults out.new)) → (result ≡ outcome_status turned) ⊎ (result ≡ 9) }
+    ensures silent { is_done result ≡ true → err.new ≡ err.old }
+    ensures told { is_done result ≡ false → is_of_input result ≡ false
         → Tells result (E.held err.old) (E.held err.new) (E.faults err.old) (E.faults err.new) }
 {
     no_loop();
     ends_exclude();
+    one_output();
     match obey_words(alloc, words, source, out) {
-        Ok(()) => 0,
+        Ok(Outcome::Yes) => 0,
+        Ok(Outcome::No) => 1,
         Err(refusal) => refuse(err, &refusal),
     }
 }

@@ -17,7 +17,7 @@ use Rattle.xm_model.specs.Membership.{IsIn}
 use Rattle.xm_order.specs.Lemmas.Items.{get-append_left, get-push_last, push_cases}
 use Rattle.xm_elim.proofs.Looking.{never}
 use Rattle.xm_elim.proofs.Passing.{same_item}
-use Rattle.xm_elim.proofs.Placing.{in_push}
+use Rattle.xm_rows.specs.Lemmas.Noting.{in_push}
 use Rattle.xm_elim.proofs.Spanning.{split_last}
 
 item_below : {X : Type 0} (xs : List X) (i : ℕ) (x : X) → slice_get xs i ≡ Some x → i < length xs

@@ -8,7 +8,8 @@ use Rattle.std.proofs.lemmas.List.Sorted.{All-permutation, Contains-permutation}
 use Rattle.xm_colours.specs.Family.{Rises}
 use Rattle.xm_model.specs.Membership.{IsIn}
 use Rattle.xm_elim.specs.Inner.Columns.{IsRisingOf}
-use Rattle.xm_elim.proofs.Placing.{all_in, in_last, in_left, rise_push}
+use Rattle.xm_elim.proofs.Placing.{all_in, rise_push}
+use Rattle.xm_rows.specs.Lemmas.Noting.{in_last, in_left}
 
 -- the first i of the given places stand in order, each once; only places from the lowest on are still to come
 pub record IsOnce (given : List ℕ) (i : ℕ) (places : List ℕ) (lowest : ℕ) : Type 0 where

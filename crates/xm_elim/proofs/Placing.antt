@@ -1,10 +1,11 @@
 -- Places of rows, and the best of them.
-use Rattle.std.proofs.Common.{◌≡◌, ℕ, zero, suc, ◌+◌, ◌<◌, ◌≤◌, ◌⊎◌, inl, inr, List, [], ◌∷◌, ◌++◌, length, get_or, take, drop, slice_get, Option, Some, None, refl, sym, ◌∙◌, ap, subst, arith, IfNone, IfSome, All}
+use Rattle.std.proofs.Common.{◌≡◌, ℕ, zero, suc, ◌+◌, ◌<◌, ◌≤◌, inl, inr, List, [], ◌∷◌, ◌++◌, length, get_or, take, drop, slice_get, Option, Some, None, sym, ◌∙◌, ap, subst, arith, IfNone, IfSome, All}
 use Rattle.std.proofs.lemmas.List.{take_more, take_all}
 use Rattle.std.proofs.lemmas.List.Elements.{All-head, All-tail, All-cons, All-nil, All-push}
 use Rattle.xm_colours.specs.Family.{Rises}
 use Rattle.xm_model.specs.Membership.{IsIn}
 use Rattle.xm_elim.specs.Elimination.{IsCandidate, IsPivot, IsTaken}
+use Rattle.xm_rows.specs.Lemmas.Noting.{in_last, in_left, in_push}
 use Rattle.xm_elim.specs.Inner.Columns.{AreTakenOf, IsRisingOf}
 use Rattle.xm_elim.specs.Inner.Places.{ArePlaces, IsBest, IsBestAt}
 use Rattle.xm_elim.specs.declared.work.Status.TheVariants.{Gone, Waiting}
@@ -15,21 +16,6 @@ pub at_index : {X : Type 0} (xs : List X) (i : ℕ) (x : X) → i < length xs �
 at_index [] i x below is = absurd (omega arith)
 at_index (y ∷ ys) zero x below is = ap Some (sym is)
 at_index (y ∷ ys) (suc i) x below is = at_index ys i x (omega arith) is
-
-pub in_push : (xs : List ℕ) (y j : ℕ) → IsIn (xs ++ y ∷ []) j → IsIn xs j ⊎ (y ≡ j)
-in_push [] y j (inl is) = inr is
-in_push [] y j (inr none) = absurd none
-in_push (x ∷ xs) y j (inl is) = inl (inl is)
-in_push (x ∷ xs) y j (inr h) = elim (in_push xs y j h) [ inl early ↦ inl (inr early) | inr last ↦ inr last ]
-
-pub in_left : (xs ys : List ℕ) (j : ℕ) → IsIn xs j → IsIn (xs ++ ys) j
-in_left [] ys j h = absurd h
-in_left (x ∷ xs) ys j (inl is) = inl is
-in_left (x ∷ xs) ys j (inr h) = inr (in_left xs ys j h)
-
-pub in_last : (xs : List ℕ) (y : ℕ) → IsIn (xs ++ y ∷ []) y
-in_last [] y = inl refl
-in_last (x ∷ xs) y = inr (in_last xs y)
 
 pub all_in : (P : ℕ → Type 0) (xs : List ℕ) (j : ℕ) → All P xs → IsIn xs j → P j
 all_in P [] j all h = absurd h

@@ -3,18 +3,19 @@
 ghost use Rattle.std.specs.Prelude.{◌≡◌, ◌+◌, ◌<◌, ◌^◌, All, IfErr, IfOk, OnOk, length};
 ghost use Rattle.xm_elim.specs.Elimination as spec;
 ghost use Rattle.xm_elim.specs.Elimination.{MeetsOverflow, OnOverflow, Reaches, Step, begun_from};
-ghost use Rattle.xm_elim.specs.Inner.Columns.{Covers, columns_of};
+ghost use Rattle.xm_elim.specs.Inner.Columns.{Covers};
+ghost use Rattle.xm_rows.specs.Columns.{columns_of};
 ghost use Rattle.xm_elim.specs.Inner.Places.{PassRefused};
 
 use crate::begin::begin;
-use crate::columns::{columns_by, spread};
+use crate::columns::columns_by;
 use crate::fault::ElimFault;
 use crate::pivot::{pivot_of, places_at};
 use crate::replace::replace_all;
 use crate::work::{Matrix, Status, Working};
 use std::alloc::Global;
 use xm_model::List;
-use xm_rows::Row;
+use xm_rows::{Row, spread};
 
 /// What the pivot of a column becomes.
 fn after(moves: u32, column: u32) -> Status

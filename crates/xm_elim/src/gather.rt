@@ -1,7 +1,8 @@
 //! The lemmas of all pivots.
 
 ghost use Rattle.std.specs.Prelude.{◌≡◌, ◌≢◌, ◌↔◌, ◌<◌, ◌+◌, ◌^◌, ◌≤◌, ℕ, pos, All, IsTrue, IfNone, IfOk, IfSome, OnOk, Some, length, map, slice_get};
-ghost use Rattle.xm_elim.specs.Inner.Columns.{Covers, columns_of};
+ghost use Rattle.xm_elim.specs.Inner.Columns.{Covers};
+ghost use Rattle.xm_rows.specs.Columns.{columns_of};
 ghost use Rattle.xm_elim.specs.Inner.Places as spec;
 ghost use Rattle.xm_elim.specs.Inner.Places.{AreGathered, Leads};
 ghost use Rattle.xm_flow.specs.Slots.{AreBelow};

@@ -3,7 +3,8 @@
 ghost use Rattle.std.specs.Prelude.{◌≡◌, ◌+◌, ◌<◌, ◌^◌, ℕ, IfErr, IfOk, IfSome, IsErr, None, length, map};
 ghost use Rattle.xm_elim.specs.Basis.{AreOver, IsConsistent, IsReducedBasis};
 ghost use Rattle.xm_elim.specs.Elimination.{ElimOverflows, EndsWith, OnOverflow, Reaches, begun_from};
-ghost use Rattle.xm_elim.specs.Inner.Columns.{Covers, columns_of};
+ghost use Rattle.xm_elim.specs.Inner.Columns.{Covers};
+ghost use Rattle.xm_rows.specs.Columns.{columns_of};
 ghost use Rattle.xm_elim.specs.Inner.Places.{IsPivotPlace, IsPlaceRefused, IsTestRefused};
 ghost use Rattle.xm_elim.specs.declared.work.Status.TheVariants as status;
 ghost use Rattle.xm_flow.specs.ValidLemma.{lemma_of};

@@ -54,7 +54,7 @@ coefficient_other es i d k within other =
 times_none : (factor z : ℤ) → z ≡ pos 0 → factor *ℤ z ≡ pos 0
 times_none factor z is = ap (λ (y : ℤ). factor *ℤ y) is ∙ *ℤ-zero factor
 
-zero_fits : (z : ℤ) → z ≡ pos 0 → Fits128 z
+pub zero_fits : (z : ℤ) → z ≡ pos 0 → Fits128 z
 zero_fits z is = subst Fits128 (sym is) (omega arith)
 
 -- ---- the entries of one row
@@ -199,8 +199,8 @@ weighed_more n flow ps i d slots next total sum within h a =
     length_taken [] (suc m) low = absurd (omega arith)
     length_taken (x ∷ xs) (suc m) low = ap suc (length_taken xs m (omega arith))
 
-pub weighed_all : (n : ℕ) (flow : List SparseRow) (ps : List Part) (i : ℕ) (slots : List Slot) (total : ℤ) → length ps ≤ i → AreWeighed n flow (take i ps) slots total → PartsFit flow ps
-weighed_all n flow ps i slots total past h = subst (PartsFit flow) (take_all i ps past) h.fit
+pub weighed_all : (n : ℕ) (flow : List SparseRow) (ps : List Part) (i : ℕ) (slots : List Slot) (total : ℤ) → length ps ≤ i → AreWeighed n flow (take i ps) slots total → AreWeighed n flow ps slots total
+weighed_all n flow ps i slots total past h = subst (λ (l : List Part). AreWeighed n flow l slots total) (take_all i ps past) h
 
 pub part_leaves : (n : ℕ) (flow : List SparseRow) (ps : List Part) (i : ℕ) (d : Part) (slots : List Slot) (total : ℤ) → i < length ps → AreWeighed n flow (take i ps) slots total →
     PartLeaves n flow (get_or ps i d) total slots → ¬ PartsFit flow ps

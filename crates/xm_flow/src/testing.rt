@@ -1,9 +1,10 @@
-//! Whether the test that flow rows make a lemma stays within 128 bits.
+//! The test that flow rows make a lemma, and whether it stays within 128 bits.
 
-ghost use Rattle.std.specs.Prelude.{◌≡◌, ◌<◌, ◌⊎◌, ◌↔◌, ◌+◌, ◌+ℤ◌, ◌*ℤ◌, All, IfOk, IfSome, IfNone, IsTrue, length};
-ghost use Rattle.xm_flow.specs.Inner.Testing.{AreAdded, EntriesLeave, IsAdded, IsPartAdded, IsScaled, PartLeaves, PartsFit, sum_at, sum_in};
+ghost use Rattle.std.specs.Prelude.{◌≡◌, ◌<◌, ◌⊎◌, ◌↔◌, ◌+◌, ◌^◌, ◌+ℤ◌, ◌*ℤ◌, ◌<ℤ◌, pos, All, IfOk, IfSome, IfNone, IsTrue, length};
+ghost use Rattle.xm_flow.specs.Inner.Testing.{AreAdded, AreWeighed, EntriesLeave, IsAdded, IsMet, IsPartAdded, IsScaled, PartLeaves, PartsFit, scaled_at, sum_at, sum_in};
 ghost use Rattle.xm_flow.specs.Slots.{AreBelow};
-ghost use Rattle.xm_flow.specs.ValidLemma.{TestFits, lemma_of};
+ghost use Rattle.xm_flow.specs.Tested.{IsTested};
+ghost use Rattle.xm_flow.specs.ValidLemma.{IsValid, TestFits, flow_at, lemma_of};
 ghost use Rattle.xm_rows.specs.Row.{Fits128, IsRising, IsRow};
 
 use crate::invariant::{Invariant, Part};
@@ -84,23 +85,25 @@ fn add_part(slots: &mut [Slot], n: u32, flow: &[Row], part: Part, total: i128) -
     Some(next)
 }
 
-/// Whether the sums of the parts stay within 128 bits.
-fn weighs(slots: &mut [Slot], n: u32, flow: &[Row], parts: &[Part]) -> bool
+/// Adds up the parts, column by column in the slots, and gives the sum of their constants, unless something leaves 128
+/// bits.
+fn weigh(slots: &mut [Slot], n: u32, flow: &[Row], parts: &[Part]) -> Option<i128>
     requires places { All (λ p. p.flow < length flow.now) parts.now }
     requires rows { All IsRow flow.now }
     requires within { All (λ r. All (λ e. e.column < length slots.old) r.entries) flow.now }
     requires below { AreBelow n slots.old }
-    ensures fits { IsTrue result ↔ PartsFit flow.now parts.now }
+    ensures weighed { IfSome result (AreWeighed n flow.now parts.now slots.new) }
+    ensures leaves { IfNone result (¬ PartsFit flow.now parts.now) }
     ensures below { AreBelow (n + 1) slots.new }
 {
     let mut total = 0;
     for part in parts {
         let Some(next) = add_part(slots, n, flow, *part, total) else {
-            return false;
+            return None;
         };
         total = next;
     }
-    true
+    Some(total)
 }
 
 /// Whether the product stays within 128 bits.
@@ -132,10 +135,147 @@ pub fn test_fits(slots: &mut [Slot], n: u32, flow: &[Row], it: &Invariant) -> bo
     ensures fits { IsTrue result ↔ TestFits flow.now (lemma_of it.now) }
     ensures below { AreBelow (n + 1) slots.new }
 {
-    if !weighs(slots, n, flow, it.parts.as_slice()) {
+    if weigh(slots, n, flow, it.parts.as_slice()).is_none() {
         return false;
     }
     scales(it)
+}
+
+/// What the test that parts make a lemma shows: a number leaves 128 bits, or the two sides differ, or the lemma holds.
+#[derive(Clone, Copy, PartialEq, Eq, Debug)]
+pub enum Tested {
+    Leaves,
+    Differs,
+    Holds,
+}
+
+/// What the scale times the row has in a column of flow rows, of which so many are moves.
+fn scaled(it: &Invariant, moves: u32, column: u32) -> i128
+    requires { IsScaled (lemma_of it.now) }
+    ensures { result ≡ scaled_at moves (lemma_of it.now) column }
+{
+    let _row = it.row.entries();
+    if column < moves {
+        return 0;
+    }
+    it.scale * it.row.value_at(column - moves)
+}
+
+/// Whether the column has the same on both sides.
+fn is_met(slots: &[Slot], n: u32, moves: u32, it: &Invariant, column: u32) -> bool
+    requires column { column < length slots.now }
+    requires scaled { IsScaled (lemma_of it.now) }
+    ensures { IsTrue result ↔ IsMet n moves (lemma_of it.now) slots.now column }
+{
+    sum_of(slots[column as usize], n) == scaled(it, moves, column)
+}
+
+/// Whether each column of a flow row has.
+fn are_met(slots: &[Slot], n: u32, moves: u32, it: &Invariant, entries: &[Entry]) -> bool
+    requires within { All (λ e. e.column < length slots.now) entries.now }
+    requires scaled { IsScaled (lemma_of it.now) }
+    ensures { IsTrue result ↔ All (λ e. IsMet n moves (lemma_of it.now) slots.now e.column) entries.now }
+{
+    for entry in entries {
+        if !is_met(slots, n, moves, it, entry.column) {
+            return false;
+        }
+    }
+    true
+}
+
+/// Whether each column of the parts' flow rows has.
+fn parts_met(slots: &[Slot], n: u32, flow: &[Row], moves: u32, it: &Invariant) -> bool
+    requires places { All (λ p. p.flow < length flow.now) it.now.parts.items }
+    requires within { All (λ r. All (λ e. e.column < length slots.now) r.entries) flow.now }
+    requires scaled { IsScaled (lemma_of it.now) }
+    ensures { IsTrue result ↔ All (λ p. All (λ e. IsMet n moves (lemma_of it.now) slots.now e.column)
+        (flow_at flow.now p.flow).entries) it.now.parts.items }
+{
+    for part in it.parts.as_slice() {
+        if !are_met(slots, n, moves, it, flow[part.flow as usize].entries()) {
+            return false;
+        }
+    }
+    true
+}
+
+/// Whether each column of the lemma's row has.
+fn row_met(slots: &[Slot], n: u32, moves: u32, it: &Invariant) -> bool
+    requires within { All (λ e. moves + e.column < length slots.now) it.now.row.entries }
+    requires few { length slots.now < 2 ^ 20 }
+    requires scaled { IsScaled (lemma_of it.now) }
+    ensures { IsTrue result ↔ All (λ e. IsMet n moves (lemma_of it.now) slots.now (moves + e.column))
+        it.now.row.entries }
+{
+    for entry in it.row.entries() {
+        if !is_met(slots, n, moves, it, moves + entry.column) {
+            return false;
+        }
+    }
+    true
+}
+
+/// Whether the parts, whose sums stand in the slots, make the lemma.
+fn is_made(
+    slots: &[Slot],
+    n: u32,
+    flow: &[Row],
+    moves: u32,
+    counts: u32,
+    it: &Invariant,
+    total: i128,
+) -> bool
+    requires whole { length slots.now ≡ moves + counts }
+    requires few { moves + counts < 2 ^ 20 }
+    requires places { All (λ p. p.flow < length flow.now) it.now.parts.items }
+    requires within { All (λ r. All (λ e. e.column < moves + counts) r.entries) flow.now }
+    requires counts { All (λ e. e.column < counts) it.now.row.entries }
+    requires positive { pos 0 <ℤ it.now.scale }
+    requires scaled { IsScaled (lemma_of it.now) }
+    requires weighed { AreWeighed n flow.now it.now.parts.items slots.now total }
+    ensures { IsTrue result ↔ IsValid moves counts flow.now (lemma_of it.now) }
+{
+    if total != it.scale * it.row.constant() {
+        return false;
+    }
+    if !row_met(slots, n, moves, it) {
+        return false;
+    }
+    parts_met(slots, n, flow, moves, it)
+}
+
+/// Tests that the parts make lemma number `n`, over so many columns of moves and then so many of packets. Before it the
+/// slots are those of earlier lemmas, one for each column.
+pub fn test_lemma(
+    slots: &mut [Slot],
+    n: u32,
+    flow: &[Row],
+    moves: u32,
+    counts: u32,
+    it: &Invariant,
+) -> Tested
+    requires whole { length slots.old ≡ moves + counts }
+    requires few { moves + counts < 2 ^ 20 }
+    requires places { All (λ p. p.flow < length flow.now) it.now.parts.items }
+    requires rows { All IsRow flow.now }
+    requires within { All (λ r. All (λ e. e.column < moves + counts) r.entries) flow.now }
+    requires counts { All (λ e. e.column < counts) it.now.row.entries }
+    requires positive { pos 0 <ℤ it.now.scale }
+    requires below { AreBelow n slots.old }
+    ensures tested { IsTested moves counts flow.now (lemma_of it.now) result }
+    ensures below { AreBelow (n + 1) slots.new }
+{
+    let Some(total) = weigh(slots, n, flow, it.parts.as_slice()) else {
+        return Tested::Leaves;
+    };
+    if !scales(it) {
+        return Tested::Leaves;
+    }
+    if is_made(slots, n, flow, moves, counts, it, total) {
+        return Tested::Holds;
+    }
+    Tested::Differs
 }
 
 /// A slot for each column.

@@ -41,7 +41,7 @@ first_factor a b u v some f =
     let size = abs_positive b some in
     factor_positive (pos f.divisor) u (omega (arith, ints)) (subst (λ (z : ℤ). pos 0 <ℤ z) (sym f.first) (omega (arith, ints)))
 
-mixed_by_cancel : (old pivot new : SparseRow) (j : ℕ) → coefficient pivot.entries j ≢ pos 0 →
+pub mixed_by_cancel : (old pivot new : SparseRow) (j : ℕ) → coefficient pivot.entries j ≢ pos 0 →
     IsCancelled old pivot j new → IsMixed old pivot new j
 mixed_by_cancel old pivot new j some c =
     let divisor = c.combination.positive in
@@ -58,7 +58,7 @@ mixed_by_cancel old pivot new j some c =
       gone = zero_factor (pos c.combination.divisor) (coefficient new.entries j) (λ e. absurd (omega (arith, ints))) (c.combination.entries j ∙ gone);
     }
 
-mixed_by_keeping : (old pivot new : SparseRow) (j : ℕ) → coefficient old.entries j ≡ pos 0 → new ≡ old →
+pub mixed_by_keeping : (old pivot new : SparseRow) (j : ℕ) → coefficient old.entries j ≡ pos 0 → new ≡ old →
     IsMixed old pivot new j
 mixed_by_keeping old pivot new j none same =
     record {

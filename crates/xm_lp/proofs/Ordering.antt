@@ -1,5 +1,5 @@
 -- The order of the ratio test.
-use Rattle.std.proofs.Common.{◌≡◌, ◌⊎◌, ℕ, zero, suc, ◌+◌, ◌<◌, inl, inr, Some, None, Option, List, [], ◌∷◌, length}
+use Rattle.std.proofs.Common.{◌≡◌, ◌⊎◌, ℕ, zero, suc, ◌<◌, inl, inr, Some, None, Option, List, [], ◌∷◌, ◌++◌, length, All}
 use Rattle.std.proofs.Common.{get_or, refl, sym, ◌∙◌, ap, subst, arith, pos, ℤ, ◌-ℤ◌, ◌*ℤ◌, ◌<ℤ◌, ◌≤ℤ◌, neg_ℤ}
 use Rattle.std.proofs.lemmas.Int.{ints}
 use Rattle.std.proofs.Math.IntN.{*ℤ_comm}
@@ -7,8 +7,13 @@ use Rattle.xm_rows.specs.Lemmas.Integers.{distrib, times_negated, crossed}
 use Rattle.xm_rows.specs.Row.{SparseRow}
 use Rattle.xm_lp.specs.declared.table.Ratio.{Ratio}
 use Rattle.xm_lp.specs.Start.{Tableau, row_at}
-use Rattle.xm_lp.specs.Pivot.{Precedes, entry_at, constant_at, basic_at}
-use Rattle.xm_lp.specs.Inner.Table.{IsRatio, IsBefore}
+use Rattle.xm_lp.specs.Pivot.{IsPivotRow, Precedes, entry_at, constant_at, basic_at}
+use Rattle.xm_lp.specs.Inner.Listing.{AreListed}
+use Rattle.xm_lp.specs.Inner.Table.{IsRatio, IsRatioAt, IsBefore}
+use Rattle.xm_lp.proofs.Basis.{zero_or_other}
+use Rattle.xm_model.specs.Membership.{IsIn}
+use Rattle.xm_rows.specs.Columns.{noted}
+use Rattle.xm_rows.specs.Lemmas.Noting.{in_below, in_last, in_left, in_push}
 use Rattle.xm_lp.proofs.Signs.{times_up, times_positive, factor_positive, nonzero}
 use Rattle.xm_rows.specs.Lemmas.Integers.{one_factor}
 
@@ -63,41 +68,40 @@ precedes_trans c e d f g k x y z up_e up_f up_k one two =
           ]
     ]
 
--- the best of the rows below i, where there is one
-pub record IsBest (t : Tableau) (j i : ℕ) (r : Ratio) : Type 0 where
+-- the best of the rows that were looked at, where there is one
+pub record IsBest (t : Tableau) (j : ℕ) (seen : List ℕ) (r : Ratio) : Type 0 where
   pub above : 0 < r.row
-  pub below : r.row < i
+  pub among : IsIn seen r.row
   pub ratio : IsRatio r
   pub constant : r.constant ≡ constant_at t r.row
   pub entry : r.entry ≡ entry_at t r.row j
   pub basic : r.basic ≡ basic_at t r.row
-  pub first : (h : ℕ) → 0 < h → h < i → pos 0 <ℤ entry_at t h j → Precedes r.constant r.entry r.basic (constant_at t h)
+  pub first : (h : ℕ) → 0 < h → IsIn seen h → pos 0 <ℤ entry_at t h j → Precedes r.constant r.entry r.basic (constant_at t h)
       (entry_at t h j) (basic_at t h)
 
-abbrev pub IsBestOf : Tableau → ℕ → ℕ → Option Ratio → Type 0
-IsBestOf t j i None = (h : ℕ) → 0 < h → h < i → entry_at t h j ≤ℤ pos 0
-IsBestOf t j i (Some r) = IsBest t j i r
-
-last_or_below : (h i : ℕ) → h < i + 1 → (h ≡ i) ⊎ (h < i)
-last_or_below h i lt = grind arith
+abbrev pub IsBestOf : Tableau → ℕ → List ℕ → Option Ratio → Type 0
+IsBestOf t j seen None = (h : ℕ) → 0 < h → IsIn seen h → entry_at t h j ≤ℤ pos 0
+IsBestOf t j seen (Some r) = IsBest t j seen r
 
 -- a row without a positive entry changes nothing
-pub best_passed : (t : Tableau) (j i : ℕ) (best : Option Ratio) → IsBestOf t j i best → entry_at t i j ≤ℤ pos 0 →
-    IsBestOf t j (i + 1) best
-best_passed t j i None h none = λ g some lt.
-    elim (last_or_below g i lt) [ inl is ↦ subst (λ (n : ℕ). entry_at t n j ≤ℤ pos 0) (sym is) none | inr below ↦ h g some below ]
-best_passed t j i (Some r) h none =
-    let below = h.below in
+pub best_passed : (t : Tableau) (j i : ℕ) (seen : List ℕ) (best : Option Ratio) → IsBestOf t j seen best →
+    (0 < i → entry_at t i j ≤ℤ pos 0) → IsBestOf t j (seen ++ i ∷ []) best
+best_passed t j i seen None h none = λ g some inside.
+    elim (in_push seen i g inside) [
+      | inl early ↦ h g some early
+      | inr is ↦ subst (λ (n : ℕ). entry_at t n j ≤ℤ pos 0) is (none (omega (arith, is, some)))
+    ]
+best_passed t j i seen (Some r) h none =
     record {
       above = h.above;
-      below = omega (arith, below);
+      among = in_left seen (i ∷ []) r.row h.among;
       ratio = h.ratio;
       constant = h.constant;
       entry = h.entry;
       basic = h.basic;
-      first = λ g some lt up. elim (last_or_below g i lt) [
-        | inl is ↦ absurd (let same = ap (λ (n : ℕ). entry_at t n j) is in omega (arith, ints))
-        | inr before ↦ h.first g some before up
+      first = λ g some inside up. elim (in_push seen i g inside) [
+        | inl early ↦ h.first g some early up
+        | inr is ↦ absurd (let down = none (omega (arith, is, some)) in let same = ap (λ (n : ℕ). entry_at t n j) is in omega (arith, ints))
       ];
     }
 
@@ -111,62 +115,82 @@ none_is_some r e = absurd (subst (λ (o : Option Ratio). IsNoneBy o) e tt)
     IsNoneBy None = Unit {0}
     IsNoneBy (Some r) = ⊥
 
--- r is the best of the rows up to i
-made : (t : Tableau) (j i : ℕ) (ratio r : Ratio) → 0 < r.row → r.row < i + 1 → IsRatio r → r.constant ≡
-    constant_at t r.row → r.entry ≡ entry_at t r.row j → r.basic ≡ basic_at t r.row →
-    ratio.constant ≡ constant_at t i → ratio.entry ≡ entry_at t i j → ratio.basic ≡ basic_at t i → IsBefore r ratio →
-    ((h : ℕ) → 0 < h → h < i → pos 0 <ℤ entry_at t h j → Precedes r.constant r.entry r.basic (constant_at t h)
-    (entry_at t h j) (basic_at t h)) → IsBest t j (i + 1) r
-made t j i ratio r above below is c e b at_c at_e at_b before rest =
+-- r is the best of the rows up to row i
+made : (t : Tableau) (j i : ℕ) (seen : List ℕ) (ratio r : Ratio) → 0 < r.row → IsIn (seen ++ i ∷ []) r.row → IsRatio r →
+    r.constant ≡ constant_at t r.row → r.entry ≡ entry_at t r.row j → r.basic ≡ basic_at t r.row → IsRatioAt t j i ratio →
+    IsBefore r ratio → ((h : ℕ) → 0 < h → IsIn seen h → pos 0 <ℤ entry_at t h j →
+    Precedes r.constant r.entry r.basic (constant_at t h) (entry_at t h j) (basic_at t h)) → IsBest t j (seen ++ i ∷ []) r
+made t j i seen ratio r above among is c e b here before rest =
     record {
       above = above;
-      below = below;
+      among = among;
       ratio = is;
       constant = c;
       entry = e;
       basic = b;
-      first = λ h some lt up. elim (last_or_below h i lt) [
-        | inl same ↦ subst (λ (n : ℕ). Precedes r.constant r.entry r.basic (constant_at t n) (entry_at t n j) (basic_at t n)) (sym same) here
-        | inr earlier ↦ rest h some earlier up
+      first = λ h some inside up. elim (in_push seen i h inside) [
+        | inl early ↦ rest h some early up
+        | inr same ↦ subst (λ (n : ℕ). Precedes r.constant r.entry r.basic (constant_at t n) (entry_at t n j) (basic_at t n)) same before_it
       ];
     }
   where
-    here : Precedes r.constant r.entry r.basic (constant_at t i) (entry_at t i j) (basic_at t i)
-    here =
-        subst (λ (n : ℕ). Precedes r.constant r.entry r.basic (constant_at t i) (entry_at t i j) n) at_b
-        (subst (λ (z : ℤ). Precedes r.constant r.entry r.basic (constant_at t i) z ratio.basic) at_e
-        (subst (λ (z : ℤ). Precedes r.constant r.entry r.basic z ratio.entry ratio.basic) at_c before))
+    before_it : Precedes r.constant r.entry r.basic (constant_at t i) (entry_at t i j) (basic_at t i)
+    before_it =
+        subst (λ (n : ℕ). Precedes r.constant r.entry r.basic (constant_at t i) (entry_at t i j) n) here.basic
+        (subst (λ (z : ℤ). Precedes r.constant r.entry r.basic (constant_at t i) z ratio.basic) here.entry
+        (subst (λ (z : ℤ). Precedes r.constant r.entry r.basic z ratio.entry ratio.basic) here.constant before))
 
 -- the first of the best and of row i's ratio
-pub best_taken : (t : Tableau) (j i : ℕ) (best : Option Ratio) (ratio r : Ratio) → IsBestOf t j i best → 0 < i →
-    ratio.row ≡ i → IsRatio ratio →
-    ratio.constant ≡ constant_at t i → ratio.entry ≡ entry_at t i j → ratio.basic ≡ basic_at t i →
-    (r ≡ ratio) ⊎ (best ≡ Some r) → IsBefore r ratio → ((other : Ratio) → best ≡ Some other → IsBefore r other) →
-    IsBest t j (i + 1) r
-best_taken t j i best ratio r h some place is c e b one before others =
+pub best_taken : (t : Tableau) (j i : ℕ) (seen : List ℕ) (best : Option Ratio) (ratio r : Ratio) → IsBestOf t j seen best →
+    IsRatioAt t j i ratio → (r ≡ ratio) ⊎ (best ≡ Some r) → IsBefore r ratio →
+    ((other : Ratio) → best ≡ Some other → IsBefore r other) → IsBest t j (seen ++ i ∷ []) r
+best_taken t j i seen best ratio r h here one before others =
     elim one [
       | inl same ↦
-          let row = ap (λ (x : Ratio). x.row) same ∙ place in
-          made t j i ratio r (omega (arith, row, some)) (omega (arith, row)) (subst IsRatio (sym same) is)
-          (ap (λ (x : Ratio). x.constant) same ∙ c ∙ sym (ap (constant_at t) row))
-          (ap (λ (x : Ratio). x.entry) same ∙ e ∙ sym (ap (λ (n : ℕ). entry_at t n j) row))
-          (ap (λ (x : Ratio). x.basic) same ∙ b ∙ sym (ap (basic_at t) row))
-          c e b before
-          (rest_of best h others (subst IsRatio (sym same) is))
+          let row = ap (λ (x : Ratio). x.row) same ∙ here.row in
+          made t j i seen ratio r (let up = here.above in omega (arith, row, up)) (subst (IsIn (seen ++ i ∷ [])) (sym row) (in_last seen i)) (subst IsRatio (sym same) here.is)
+          (ap (λ (x : Ratio). x.constant) same ∙ here.constant ∙ sym (ap (constant_at t) row))
+          (ap (λ (x : Ratio). x.entry) same ∙ here.entry ∙ sym (ap (λ (n : ℕ). entry_at t n j) row))
+          (ap (λ (x : Ratio). x.basic) same ∙ here.basic ∙ sym (ap (basic_at t) row))
+          here before (rest_of best h others (subst IsRatio (sym same) here.is))
       | inr kept ↦
-          let old : IsBest t j i r = subst (λ (o : Option Ratio). IsBestOf t j i o) kept h in
-          let below = old.below in
-          made t j i ratio r old.above (omega (arith, below)) old.ratio old.constant old.entry old.basic c e b before old.first
+          let old : IsBest t j seen r = subst (λ (o : Option Ratio). IsBestOf t j seen o) kept h in
+          made t j i seen ratio r old.above (in_left seen (i ∷ []) r.row old.among) old.ratio old.constant old.entry old.basic here before old.first
     ]
   where
-    rest_of : (best : Option Ratio) → IsBestOf t j i best → ((other : Ratio) → best ≡ Some other → IsBefore r other) →
+    rest_of : (best : Option Ratio) → IsBestOf t j seen best → ((other : Ratio) → best ≡ Some other → IsBefore r other) →
         IsRatio r →
-        (h : ℕ) → 0 < h → h < i → pos 0 <ℤ entry_at t h j → Precedes r.constant r.entry r.basic (constant_at t h)
+        (h : ℕ) → 0 < h → IsIn seen h → pos 0 <ℤ entry_at t h j → Precedes r.constant r.entry r.basic (constant_at t h)
         (entry_at t h j) (basic_at t h)
-    rest_of None none others is = λ h some lt up. absurd (let down = none h some lt in omega (arith, ints))
-    rest_of (Some b) best others is = λ h some lt up.
+    rest_of None none others is = λ h some inside up. absurd (let down = none h some inside in omega (arith, ints))
+    rest_of (Some b) best others is = λ h some inside up.
         precedes_trans r.constant r.entry b.constant b.entry (constant_at t h) (entry_at t h j) r.basic b.basic (basic_at t h)
-        is.entry best.ratio.entry up (others b refl) (best.first h some lt up)
+        is.entry best.ratio.entry up (others b refl) (best.first h some inside up)
+
+-- the best of the rows that are noted for the column is that of all
+pub best_of_all : (t : Tableau) (j : ℕ) (seen : List ℕ) (columns : List (List ℕ)) (r : Ratio) → AreListed t.rows columns →
+    j < length columns → seen ≡ noted columns j → IsBest t j seen r → IsPivotRow t j r.row
+best_of_all t j seen columns r listed below is best =
+    let up = best.ratio.entry in
+    let entry = best.entry in
+    record {
+      above = best.above;
+      within = in_below (length t.rows) seen r.row (subst (All (λ h. h < length t.rows)) (sym is) (listed.bounded j)) best.among;
+      positive = omega (arith, ints);
+      first = λ h some within positive.
+          let inside = subst (λ (l : List ℕ). IsIn l h) (sym is) (listed.listed h j within below (λ none. absurd (omega (arith, ints)))) in
+          subst (λ (n : ℕ). Precedes (constant_at t r.row) (entry_at t r.row j) n (constant_at t h) (entry_at t h j) (basic_at t h)) best.basic
+          (subst (λ (z : ℤ). Precedes (constant_at t r.row) z r.basic (constant_at t h) (entry_at t h j) (basic_at t h)) best.entry
+          (subst (λ (z : ℤ). Precedes z r.entry r.basic (constant_at t h) (entry_at t h j) (basic_at t h)) best.constant (best.first h some inside positive)));
+    }
+
+pub none_of_all : (t : Tableau) (j : ℕ) (seen : List ℕ) (columns : List (List ℕ)) → AreListed t.rows columns → j < length columns →
+    seen ≡ noted columns j → IsBestOf t j seen None → (h : ℕ) → 0 < h → h < length t.rows → entry_at t h j ≤ℤ pos 0
+none_of_all t j seen columns listed below is none h some within =
+    elim (zero_or_other (entry_at t h j)) [
+      | inl nothing ↦ omega (arith, ints)
+      | inr other ↦ none h some (subst (λ (l : List ℕ). IsIn l h) (sym is) (listed.listed h j within below other))
+    ]
 
 -- the number read at an index is that of the definitions
 pub read_row : (rows : List SparseRow) (i : ℕ) (r : SparseRow) (given : List SparseRow) → given ≡ rows →

@@ -4,6 +4,7 @@
 mod answer;
 mod decision;
 mod laws;
+mod places;
 mod ratio;
 mod simplex;
 mod start;

@@ -1,15 +1,18 @@
 //! The tableau: its rows, row 0 being the objective's, and the basic column of each.
 
-ghost use Rattle.std.specs.Prelude.{◌≡◌, ◌≢◌, ◌<◌, ◌≤◌, ◌⊎◌, ℕ, Some, length, pos, ◌≤ℤ◌, IfSome, IfNone, IsTrue};
+ghost use Rattle.std.specs.Prelude.{◌≡◌, ◌≢◌, ◌<◌, ◌≤◌, ◌⊎◌, ℕ, Some, length, pos, ◌≤ℤ◌, All, IfSome, IfNone, IsTrue};
 ghost use Rattle.std.specs.Prelude.{IsFalse, IsErrOf, OnOk};
 ghost use Rattle.std.specs.Option.{ForSome};
 ghost use Rattle.xm_lp.specs.declared.table.Ratio.{Ratio};
 ghost use Rattle.xm_rows.specs.Row.{coefficient};
 ghost use Rattle.xm_lp.specs.Start.{row_at};
-ghost use Rattle.xm_lp.specs.Inner.Part.{ClearingLeaves, IsReplaced};
-ghost use Rattle.xm_lp.specs.Inner.Table.{IsBefore, IsRatio, tableau_of};
+ghost use Rattle.xm_lp.specs.Inner.Listing.{AreListed, AreListedBut};
+ghost use Rattle.xm_lp.specs.Inner.Part.{ArePartlyCleared, ClearingLeaves, IsReplaced, SomeLeaves};
+ghost use Rattle.xm_lp.specs.Inner.Table.{IsBefore, IsRatio, IsRatioAt, tableau_of};
+ghost use Rattle.xm_rows.specs.Columns.{columns_of};
 ghost use Rattle.xm_lp.specs.Pivot.{IsLast, IsPivotColumn, IsPivotRow, IsPivoted, PivotLeaves, entry_at, constant_at};
 
+use crate::places::{note_rows, take};
 use crate::ratio::is_less;
 use std::alloc::Global;
 use xm_model::List;
@@ -42,7 +45,7 @@ pub(crate) fn pivot_column(table: &Table, artificials: u32) -> Option<u32>
 /// A row as the ratio test sees it: its constant over its entry, and its basic column.
 #[derive(Clone, Copy)]
 struct Ratio {
-    row: usize,
+    row: u32,
     constant: i128,
     entry: i128,
     basic: u32,
@@ -86,27 +89,45 @@ fn first_of(best: Option<Ratio>, ratio: Ratio) -> Ratio
     }
 }
 
-/// The row in which column `column` becomes basic.
-pub(crate) fn pivot_row(table: &Table, column: u32) -> Option<usize>
+/// Row number `row` as the ratio test sees it, where it has a positive entry in the column.
+fn ratio_of(table: &Table, row: u32, column: u32) -> Option<Ratio>
+    requires row { row < length table.now.rows.items }
+    requires count { length table.now.basics.items ≡ length table.now.rows.items }
+    requires constant { 0 < row → pos 0 ≤ℤ constant_at (tableau_of table.now) row }
+    ensures some { IfSome result (IsRatioAt (tableau_of table.now) column row) }
+    ensures none { IfNone result (0 < row → entry_at (tableau_of table.now) row column ≤ℤ pos 0) }
+{
+    if row == 0 {
+        return None;
+    }
+    let there = &table.rows.as_slice()[row as usize];
+    let entry = there.value_at(column);
+    if entry <= 0 {
+        return None;
+    }
+    Some(Ratio {
+        row,
+        constant: there.constant(),
+        entry,
+        basic: table.basics.as_slice()[row as usize],
+    })
+}
+
+/// The row in which column `column` becomes basic, of those that are noted for it.
+pub(crate) fn pivot_row(table: &Table, places: &[List<u32>], column: u32) -> Option<u32>
     requires count { length table.now.basics.items ≡ length table.now.rows.items }
     requires constants { (i : ℕ) → 0 < i → i < length table.now.rows.items →
         pos 0 ≤ℤ constant_at (tableau_of table.now) i }
+    requires column { column < length places.now }
+    requires listed { AreListed table.now.rows.items (columns_of places.now) }
     ensures row { IfSome result (λ i. IsPivotRow (tableau_of table.now) column i) }
     ensures none { IfNone result ((i : ℕ) → 0 < i → i < length table.now.rows.items →
         entry_at (tableau_of table.now) i column ≤ℤ pos 0) }
 {
-    let rows = table.rows.as_slice();
     let mut best: Option<Ratio> = None;
-    for row in 1..rows.len() {
-        let entry = rows[row].value_at(column);
-        if entry <= 0 {
+    for row in places[column as usize].as_slice() {
+        let Some(ratio) = ratio_of(table, *row, column) else {
             continue;
-        }
-        let ratio = Ratio {
-            row,
-            constant: rows[row].constant(),
-            entry,
-            basic: table.basics.as_slice()[row],
         };
         best = Some(first_of(best, ratio));
     }
@@ -139,24 +160,74 @@ fn replace(
     Ok(())
 }
 
-/// Makes `column` basic in row `i`: every other row with an entry there has it cancelled.
-pub(crate) fn pivot(
+/// Cancels `column` in each of these rows by row `i`, where they have an entry there.
+fn clear_rows(
+    alloc: Global,
+    rows: &mut List<Row>,
+    list: &[u32],
+    i: u32,
+    column: u32,
+) -> Result<(), CancelFault>
+    requires within { All (λ h. h < length rows.old.items) list.now }
+    requires pivot { i < length rows.old.items }
+    requires entry { coefficient (row_at rows.old.items i).entries column ≢ pos 0 }
+    ensures ok { OnOk result (ArePartlyCleared rows.old.items rows.new.items i column list.now) }
+    ensures overflow { IsErrOf result CancelFault.Overflow → SomeLeaves rows.old.items i column }
+{
+    for h in list {
+        if *h == i {
+            continue;
+        }
+        if let Err(fault) = replace(alloc, rows, *h as usize, i as usize, column) {
+            return Err(fault);
+        }
+    }
+    Ok(())
+}
+
+/// Makes `column` basic in row `i`, by the rows that are noted for the column.
+fn pivot_by(
     alloc: Global,
     table: &mut Table,
+    places: &mut [List<u32>],
+    list: &[u32],
     column: u32,
-    i: usize,
+    i: u32,
 ) -> Result<(), CancelFault>
     requires count { length table.old.basics.items ≡ length table.old.rows.items }
     requires row { i < length table.old.rows.items }
     requires entry { entry_at (tableau_of table.old) i column ≢ pos 0 }
+    requires column { column < length places.old }
+    requires listed { AreListedBut column list.now table.old.rows.items (columns_of places.old) }
     ensures ok { OnOk result (IsPivoted (tableau_of table.old) column i (tableau_of table.new)) }
+    ensures listed { OnOk result (AreListed table.new.rows.items (columns_of places.new)) }
     ensures overflow { IsErrOf result CancelFault.Overflow → PivotLeaves (tableau_of table.old) column i }
 {
-    for h in 0..table.rows.len() {
-        if h != i {
-            replace(alloc, &mut table.rows, h, i, column)?;
-        }
-    }
-    table.basics.as_mut_slice()[i] = column;
+    note_rows(places, table.rows.as_slice(), list, column, i)?;
+    clear_rows(alloc, &mut table.rows, list, i, column)?;
+    places[column as usize].push(i)?;
+    table.basics.as_mut_slice()[i as usize] = column;
     Ok(())
+}
+
+/// Makes `column` basic in row `i`: every other row with an entry there has it cancelled. The rows that are noted for
+/// each column are kept up.
+pub(crate) fn pivot(
+    alloc: Global,
+    table: &mut Table,
+    places: &mut [List<u32>],
+    column: u32,
+    i: u32,
+) -> Result<(), CancelFault>
+    requires count { length table.old.basics.items ≡ length table.old.rows.items }
+    requires row { i < length table.old.rows.items }
+    requires entry { entry_at (tableau_of table.old) i column ≢ pos 0 }
+    requires column { column < length places.old }
+    requires listed { AreListed table.old.rows.items (columns_of places.old) }
+    ensures ok { OnOk result (IsPivoted (tableau_of table.old) column i (tableau_of table.new)) }
+    ensures listed { OnOk result (AreListed table.new.rows.items (columns_of places.new)) }
+    ensures overflow { IsErrOf result CancelFault.Overflow → PivotLeaves (tableau_of table.old) column i }
+{
+    let list = take(alloc, places, column);
+    pivot_by(alloc, table, places, list.as_slice(), column, i)
 }

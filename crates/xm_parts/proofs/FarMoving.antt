@@ -72,7 +72,7 @@ module _ (net : Network) (is_net : IsNet net) (label : ℕ → ℕ) (p : ℕ) (c
     rest = λ r k c is apart. let cut = kept_cut k c r is in rest k cut.0 cut.1 (λ e. apart (sym cut.2 ∙ e));
   }
 
-some_far : (o : Option ℕ) → is_some o ≡ true → (c : ℕ) × (o ≡ Some c)
+pub some_far : (o : Option ℕ) → is_some o ≡ true → (c : ℕ) × (o ≡ Some c)
 some_far None h = absurd cc
 some_far (Some c) h = (c, refl)
 

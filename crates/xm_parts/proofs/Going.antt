@@ -22,22 +22,11 @@ get-append_first [] ys k h = absurd (omega arith)
 get-append_first (x ∷ xs) ys zero h = refl
 get-append_first (x ∷ xs) ys (suc k) h = get-append_first xs ys k (omega arith)
 
--- what a primitive that is no queue holds depends on the preferred side alone
-by_side : (m : Component) (s : Content) (φ : Signals) → is_queue m ≡ false → content_after m (content_of (cell.Pref (pref_in s))) φ ≡ content_after m s φ
-by_side (Source out cs mode) s φ h = refl
-by_side (Sink input mode) s φ h = refl
-by_side (Queue input out k ps) s φ h = absurd cc
-by_side (Function input out t) s φ h = refl
-by_side (Fork input a b ta tb) s φ h = refl
-by_side (Join a b out pass) s φ h = refl
-by_side (Switch input a b t) s φ h = refl
-by_side (Merge a b out) s φ h = refl
-
 pub gone_on : (m : Component) (from before new : Cell) (wires : List Wire) (far : List (Option ℕ)) → is_queue m ≡ false → ((c : ℕ) → IsPort m c → c < length wires) →
-    before ≡ cell.Pref (pref_in (content_of from)) → IsAdvanced m before new (signals_of wires) → HasGone m from new (part_signals wires far)
+    ((φ : Signals) → content_after m (content_of before) φ ≡ content_after m (content_of from) φ) → IsAdvanced m before new (signals_of wires) → HasGone m from new (part_signals wires far)
 gone_on m from before new wires far no_queue own is went = record {
   content =
-      went.content ∙ ap (λ (x : Cell). content_after m (content_of x) (signals_of wires)) is ∙ by_side m (content_of from) (signals_of wires) no_queue
+      went.content ∙ is (signals_of wires)
       ∙ content_local m (content_of from) (signals_of wires) (part_signals wires far) (λ c port.
       let same = get-append_first wires (map far_wire far) c (own c port) in
       (ap offer_or (sym same), ap ready_or (sym same)));

@@ -28,9 +28,11 @@ pub record IsCellWith (net : Network) (i : ℕ) (s : Content) (x : PrimCell) : T
 -- the cells of these primitives, which hold what these cells do
 pub record AreCellsOf (net : Network) (prims : List ℕ) (cells : List Cell) (made : List PrimCell) : Type 0 where
   pub whole : length made ≡ length prims
-  pub each : (k i : ℕ) (x : PrimCell) → slice_get made k ≡ Some x → slice_get prims k ≡ Some i → IsCellWith net i (content_at cells i) x
+  pub each : (k i : ℕ) (x : PrimCell) → slice_get made k ≡ Some x → slice_get prims k ≡ Some i →
+      IsCellWith net i (content_at cells i) x
 
 -- the same cells, with room
 pub record AreCopies (net : Network) (cells made : List PrimCell) : Type 0 where
   pub whole : length made ≡ length cells
-  pub each : (k : ℕ) (x y : PrimCell) → slice_get made k ≡ Some x → slice_get cells k ≡ Some y → IsCellWith net y.prim (content_of y.cell) x
+  pub each : (k : ℕ) (x y : PrimCell) → slice_get made k ≡ Some x → slice_get cells k ≡ Some y →
+      IsCellWith net y.prim (content_of y.cell) x

@@ -19,7 +19,8 @@ abbrev pub AreFarFrom : Network → (ℕ → ℕ) → ℕ → ℕ → Signals �
 AreFarFrom net label p q φ moves = (k c : ℕ) → IsCutTo net label p q k c → slice_get moves k ≡ Some (move φ c)
 
 -- they are set from what part q has of a frame, and those in other parts stay
-pub record SetFrom (net : Network) (label : ℕ → ℕ) (p q : ℕ) (wires : List Wire) (old new : List (Option ℕ)) : Type 0 where
+pub record SetFrom (net : Network) (label : ℕ → ℕ) (p q : ℕ) (wires : List Wire)
+    (old new : List (Option ℕ)) : Type 0 where
   pub whole : length new ≡ length old
   pub here : (φ : Signals) → wires ≡ map (wire_of φ) (channels_in net label q) → AreFarFrom net label p q φ new
   pub rest : (r k c : ℕ) → IsCutTo net label p r k c → r ≢ q → slice_get new k ≡ slice_get old k
@@ -27,5 +28,6 @@ pub record SetFrom (net : Network) (label : ℕ → ℕ) (p q : ℕ) (wires : Li
 -- once they are set from every neighbour's part of one frame, they are the far moves of that frame
 abbrev pub FarLaw : Type 0
 FarLaw =
-    (net : Network) (label : ℕ → ℕ) (p : ℕ) (φ : Signals) (moves : List (Option ℕ)) → length moves ≡ length (cuts_in net label p) →
+    (net : Network) (label : ℕ → ℕ) (p : ℕ) (φ : Signals) (moves : List (Option ℕ)) →
+    length moves ≡ length (cuts_in net label p) →
     ((q : ℕ) → AreNeighbours net label p q → AreFarFrom net label p q φ moves) → moves ≡ far_moves net label p φ

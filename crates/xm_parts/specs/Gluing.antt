@@ -26,18 +26,21 @@ pub record IsGlue (it : Designed) (cells : List Cell) (wires : List Wire) : Type
   pub whole : length wires ≡ it.net.channels
 
 -- the contents of the primitives of part p are those of the state, and its wires those of the frame
-pub record HoldsPart (net : Network) (label : ℕ → ℕ) (p : ℕ) (s : ℕ → Content) (φ : Signals) (contents : List Content) (wires : List Wire) : Type 0 where
+pub record HoldsPart (net : Network) (label : ℕ → ℕ) (p : ℕ) (s : ℕ → Content) (φ : Signals) (contents : List Content)
+    (wires : List Wire) : Type 0 where
   pub contents_are : (i : ℕ) → touches_at net label p i ≡ true → slice_get contents i ≡ Some (s i)
   pub wires_are : (c : ℕ) → c < net.channels → label c ≡ p → slice_get wires c ≡ Some (wire_of φ c)
 
 -- all are
-pub record HoldsAll (net : Network) (s : ℕ → Content) (φ : Signals) (contents : List Content) (wires : List Wire) : Type 0 where
+pub record HoldsAll (net : Network) (s : ℕ → Content) (φ : Signals) (contents : List Content)
+    (wires : List Wire) : Type 0 where
   pub contents_are : (i : ℕ) → i < length net.prims → slice_get contents i ≡ Some (s i)
   pub wires_are : (c : ℕ) → c < net.channels → slice_get wires c ≡ Some (wire_of φ c)
 
 -- each cell of a row fits its primitive
 abbrev pub FitCells : Network → List PrimCell → Type 0
-FitCells net cells = (k : ℕ) (x : PrimCell) (m : Component) → slice_get cells k ≡ Some x → HasPrim net x.prim m → FitsContent net.colours m (content_of x.cell)
+FitCells net cells = (k : ℕ) (x : PrimCell) (m : Component) → slice_get cells k ≡ Some x → HasPrim net x.prim m →
+    FitsContent net.colours m (content_of x.cell)
 
 -- the cells of a row are those of the state
 abbrev pub ShowsCells : List PrimCell → (ℕ → Content) → Type 0
@@ -62,5 +65,7 @@ CanHold cell.Nothing to = Unit {0}
 -- what holds of every part of a partition holds of the net
 abbrev pub GlueLaw : Type 0
 GlueLaw =
-    (net : Network) (label : ℕ → ℕ) (count : ℕ) (s : ℕ → Content) (φ : Signals) (contents : List Content) (wires : List Wire) → IsNet net →
-    ((c : ℕ) → c < net.channels → label c < count) → ((p : ℕ) → p < count → HoldsPart net label p s φ contents wires) → HoldsAll net s φ contents wires
+    (net : Network) (label : ℕ → ℕ) (count : ℕ) (s : ℕ → Content) (φ : Signals) (contents : List Content)
+    (wires : List Wire) → IsNet net →
+    ((c : ℕ) → c < net.channels → label c < count) → ((p : ℕ) → p < count → HoldsPart net label p s φ contents wires) →
+    HoldsAll net s φ contents wires

@@ -12,7 +12,8 @@ use Rattle.xm_step.specs.Roomy.{IsRoomyCell}
 
 -- a queue into which something moves has fewer packets than its capacity
 abbrev pub HasPlace : Component → Cell → Signals → Type 0
-HasPlace (Queue input out capacity initial) x φ = (d : ℕ) → move φ input ≡ Some d → length (packets_in (content_of x)) < capacity
+HasPlace (Queue input out capacity initial) x φ = (d : ℕ) → move φ input ≡ Some d →
+    length (packets_in (content_of x)) < capacity
 HasPlace _ x φ = Unit {0}
 
 -- one cell holds what the other does after the cycle

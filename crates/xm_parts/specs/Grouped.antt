@@ -33,4 +33,5 @@ is_least f c = nat_eq (f c) c
 
 -- the channels of primitive i have one label, unless it is a queue
 abbrev pub JoinedAt : Network → (ℕ → ℕ) → ℕ → Type 0
-JoinedAt net f i = (m : Component) (c d : ℕ) → HasPrim net i m → is_queue m ≡ false → IsPort m c → IsPort m d → f c ≡ f d
+JoinedAt net f i = (m : Component) (c d : ℕ) → HasPrim net i m → is_queue m ≡ false → IsPort m c → IsPort m d →
+    f c ≡ f d

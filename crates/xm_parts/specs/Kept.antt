@@ -8,6 +8,7 @@ use Rattle.xm_model.specs.Net.{HasPrim, Network}
 use Rattle.xm_order.specs.Dependence.{channel_of}
 use Rattle.xm_order.specs.declared.signal.Signal.{Signal}
 use Rattle.xm_order.specs.declared.signal.Signal.TheVariants as signal
+use Rattle.xm_parts.specs.Near.{AreNear}
 use Rattle.xm_parts.specs.Partition.{IsPartition, channels_in, cuts_in, far_at, is_cut, lies_in, prims_in}
 use Rattle.xm_parts.specs.Passing.{place}
 use Rattle.xm_plan.specs.Planned.{Planned}
@@ -34,7 +35,8 @@ channel_place label p c = place (lies_in label p) c
 -- where a port of primitive i stands in part p: an own channel at its place, the far channel of a cut queue at
 -- the queue's place behind all own channels
 abbrev pub port_place : Network → (ℕ → ℕ) → ℕ → ℕ → ℕ → ℕ
-port_place net label p i c = cond (lies_in label p c) (channel_place label p c) (place (lies_in label p) net.channels + place (is_cut net label p) i)
+port_place net label p i c = cond (lies_in label p c) (channel_place label p c)
+    (place (lies_in label p) net.channels + place (is_cut net label p) i)
 
 -- where a port stands as the plan of part p sees it: it reads and makes nothing of a far channel, which stands at 0
 abbrev pub near_place : (ℕ → ℕ) → ℕ → ℕ → ℕ
@@ -60,18 +62,21 @@ pub record IsTask (net : Network) (label : ℕ → ℕ) (p : ℕ) (σ : Signal) 
 
 pub record AreTasksOf (it : Designed) (label : ℕ → ℕ) (p : ℕ) (tasks : List Task) : Type 0 where
   pub whole : length tasks ≡ length (signals_in it.order label p)
-  pub each : (k : ℕ) (σ : Signal) (task : Task) → slice_get (signals_in it.order label p) k ≡ Some σ → slice_get tasks k ≡ Some task → IsTask it.net label p σ task
+  pub each : (k : ℕ) (σ : Signal) (task : Task) → slice_get (signals_in it.order label p) k ≡ Some σ →
+      slice_get tasks k ≡ Some task → IsTask it.net label p σ task
 
 -- each cut queue with the part of its far channel and that channel's place there
 pub record AreCutsOf (net : Network) (label : ℕ → ℕ) (p : ℕ) (cuts : List Cut) : Type 0 where
   pub whole : length cuts ≡ length (cuts_in net label p)
-  pub each : (k i c : ℕ) (cut : Cut) → slice_get (cuts_in net label p) k ≡ Some i → far_at net label p i ≡ Some c → slice_get cuts k ≡ Some cut →
+  pub each : (k i c : ℕ) (cut : Cut) → slice_get (cuts_in net label p) k ≡ Some i → far_at net label p i ≡ Some c →
+      slice_get cuts k ≡ Some cut →
       (cut.part ≡ label c) × (cut.wire ≡ channel_place label (label c) c)
 
 -- the primitives with their ports by place
 pub record AreRenamed (net : Network) (label : ℕ → ℕ) (p : ℕ) (r : ℕ → ℕ → ℕ) (locals : List Component) : Type 0 where
   pub whole : length locals ≡ length (prims_in net label p)
-  pub each : (k i : ℕ) (m : Component) → slice_get (prims_in net label p) k ≡ Some i → HasPrim net i m → slice_get locals k ≡ Some (renamed (r i) m)
+  pub each : (k i : ℕ) (m : Component) → slice_get (prims_in net label p) k ≡ Some i → HasPrim net i m →
+      slice_get locals k ≡ Some (renamed (r i) m)
 
 abbrev pub AreLocalsOf : Network → (ℕ → ℕ) → ℕ → List Component → Type 0
 AreLocalsOf net label p locals = AreRenamed net label p (port_place net label p) locals
@@ -92,6 +97,7 @@ pub record IsPartOf (it : Designed) (label : ℕ → ℕ) (p : ℕ) (part : Part
   pub planned : map component_of part.planned.items ≡ part.plan.prims
   pub plan : IsPlanOf it label p part.plan
   pub cuts : AreCutsOf it.net label p part.cuts.items
+  pub neighbours : AreNear it.net label p part.neighbours.items
 
 -- a design with a label for each channel, and the number of parts
 pub record Division : Type 0 where

@@ -1,12 +1,15 @@
 pub mod Balanced
 pub mod Built
+pub mod Changing
 pub mod Copied
 pub mod Far
+pub mod Fitting
 pub mod Given
 pub mod Gluing
 pub mod Going
 pub mod Grouped
 pub mod Kept
+pub mod Near
 pub mod PartLaw
 pub mod Partition
 pub mod Passing

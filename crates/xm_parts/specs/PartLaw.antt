@@ -12,7 +12,8 @@ use Rattle.xm_parts.specs.Partition.{IsPartition}
 use Rattle.xm_parts.specs.Projection.{IsCycle, Row, projection}
 
 -- the row is that of part p one cycle on, under these choices
-pub record IsAfter (net : Network) (label : ℕ → ℕ) (p : ℕ) (row : Row) (far : List (Option ℕ)) (w : ℕ → Choice) (after : Row) : Type 0 where
+pub record IsAfter (net : Network) (label : ℕ → ℕ) (p : ℕ) (row : Row) (far : List (Option ℕ)) (w : ℕ → Choice)
+    (after : Row) : Type 0 where
   pub cycle : IsCycle net label p row far
   pub frame : Signals
   pub is_frame : IsFrame net (next net cycle.state cycle.frame) w frame
@@ -20,5 +21,7 @@ pub record IsAfter (net : Network) (label : ℕ → ℕ) (p : ℕ) (row : Row) (
 
 abbrev pub PartLaw : Type 0
 PartLaw =
-    (net : Network) (signals : List Signal) (label : ℕ → ℕ) (p : ℕ) (row : Row) (far : List (Option ℕ)) (w : ℕ → Choice) (one two : Row) →
-    IsNet net → IsOrder net signals → IsPartition net label → IsAfter net label p row far w one → IsAfter net label p row far w two → one ≡ two
+    (net : Network) (signals : List Signal) (label : ℕ → ℕ) (p : ℕ) (row : Row) (far : List (Option ℕ))
+    (w : ℕ → Choice) (one two : Row) →
+    IsNet net → IsOrder net signals → IsPartition net label → IsAfter net label p row far w one →
+    IsAfter net label p row far w two → one ≡ two

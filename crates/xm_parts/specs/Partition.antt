@@ -17,7 +17,8 @@ is_queue (Merge a b out) = false
 
 -- each channel has a label, and the channels of a primitive that is no queue have the same
 pub record IsPartition (net : Network) (label : ℕ → ℕ) : Type 0 where
-  pub together : (i : ℕ) (m : Component) (c d : ℕ) → HasPrim net i m → is_queue m ≡ false → IsPort m c → IsPort m d → label c ≡ label d
+  pub together : (i : ℕ) (m : Component) (c d : ℕ) → HasPrim net i m → is_queue m ≡ false → IsPort m c → IsPort m d →
+      label c ≡ label d
 
 -- the channel lies in part p
 abbrev pub lies_in : (ℕ → ℕ) → ℕ → ℕ → Bool
@@ -54,7 +55,8 @@ abbrev pub far_channel : (ℕ → ℕ) → ℕ → Option Component → Option �
 far_channel label p None = None
 far_channel label p (Some (Source out colours mode)) = None
 far_channel label p (Some (Sink input mode)) = None
-far_channel label p (Some (Queue input out capacity initial)) = outer (lies_in label p input) (lies_in label p out) input out
+far_channel label p (Some (Queue input out capacity initial)) = outer (lies_in label p input)
+    (lies_in label p out) input out
 far_channel label p (Some (Function input out table)) = None
 far_channel label p (Some (Fork input a b table_a table_b)) = None
 far_channel label p (Some (Join a b out pass)) = None
@@ -81,7 +83,8 @@ pub record AreNeighbours (net : Network) (label : ℕ → ℕ) (p q : ℕ) : Typ
 -- channels that a partition must keep together: steps from port to port of primitives that are no queues
 pub data Linked (net : Network) : ℕ → ℕ → Type 0 where
   itself : {c : ℕ} → Linked net c c
-  by : {c d e : ℕ} (i : ℕ) (m : Component) → HasPrim net i m → is_queue m ≡ false → IsPort m c → IsPort m d → Linked net d e → Linked net c e
+  by : {c d e : ℕ} (i : ℕ) (m : Component) → HasPrim net i m → is_queue m ≡ false → IsPort m c → IsPort m d →
+      Linked net d e → Linked net c e
 
 -- each channel's island: the linked channels have one number, others have others, and the numbers first
 -- come in order, with no gap

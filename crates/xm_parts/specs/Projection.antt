@@ -19,7 +19,10 @@ wire_of φ c = record { offer = φ.offer c; ready = φ.ready c }
 
 -- the contents of the part's primitives, and the signals of its channels, both in order
 abbrev pub projection : Network → (ℕ → ℕ) → ℕ → (ℕ → Content) → Signals → Row
-projection net label p s φ = record { cells = map (λ i. (i, s i)) (prims_in net label p); wires = map (wire_of φ) (channels_in net label p) }
+projection net label p s φ = record {
+  cells = map (λ i. (i, s i)) (prims_in net label p);
+  wires = map (wire_of φ) (channels_in net label p);
+}
 
 abbrev pub move_on : Signals → Option ℕ → Option ℕ
 move_on φ None = None

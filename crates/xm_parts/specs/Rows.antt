@@ -1,6 +1,6 @@
 -- The rows of the code, and when a row has a part's shape and room for its step.
 use Rattle.std.specs.Prelude.{◌≡◌, ℕ, true, false, List, length, map, ◌++◌, Option, Some, None, slice_get}
-use Rattle.xm_model.specs.Component.{Component, content_of}
+use Rattle.xm_model.specs.Component.{Component, Content, content_of}
 use Rattle.xm_model.specs.Views.{signals_of}
 use Rattle.xm_model.specs.Net.{HasPrim, Network}
 use Rattle.xm_model.specs.Signals.{Signals}
@@ -13,9 +13,16 @@ use Rattle.xm_parts.specs.declared.row.PartRow.{PartRow}
 use Rattle.xm_parts.specs.declared.row.PrimCell.{PrimCell}
 use Rattle.xm_step.specs.Roomy.{IsRoomyCell}
 
+-- the contents of cells, each with its primitive
+abbrev pub contents_in : List PrimCell → List (ℕ × Content)
+contents_in cells = map (λ (x : PrimCell). (x.prim, content_of x.cell)) cells
+
 -- the row of the code without its rooms
 abbrev pub row_of : PartRow → Row
-row_of row = record { cells = map (λ (x : PrimCell). (x.prim, content_of x.cell)) row.cells.items; wires = row.wires.items }
+row_of row = record {
+  cells = contents_in row.cells.items;
+  wires = row.wires.items;
+}
 
 -- the row has part p's primitives and as many wires as it has channels
 pub record FitsPart (net : Network) (label : ℕ → ℕ) (p : ℕ) (row : PartRow) : Type 0 where
@@ -25,7 +32,8 @@ pub record FitsPart (net : Network) (label : ℕ → ℕ) (p : ℕ) (row : PartR
 -- and each queue has at most its capacity, and room for it
 pub record IsRoomyRow (net : Network) (label : ℕ → ℕ) (p : ℕ) (row : PartRow) : Type 0 where
   pub fits : FitsPart net label p row
-  pub roomy : (k : ℕ) (x : PrimCell) (m : Component) → slice_get row.cells.items k ≡ Some x → HasPrim net x.prim m → IsRoomyCell m x.cell
+  pub roomy : (k : ℕ) (x : PrimCell) (m : Component) → slice_get row.cells.items k ≡ Some x → HasPrim net x.prim m →
+      IsRoomyCell m x.cell
 
 -- the wire of a far channel on which this moves
 abbrev pub far_wire : Option ℕ → Wire

@@ -14,6 +14,7 @@ ghost use Rattle.xm_parts.specs.Kept.{AreCutsOf, AreLocalsOf, AreRenamed, AreTas
 ghost use Rattle.xm_parts.specs.Partition.{IsPartition, channels_in, cuts_in, far_channel, prims_in, touches, touches_at};
 ghost use Rattle.xm_parts.specs.Partition.{lies_in as lies_in_part};
 
+use crate::near::neighbours_of;
 use crate::part::{Cut, Part};
 use std::alloc::Global;
 use xm_design::{Design, Task};
@@ -182,7 +183,8 @@ fn local(
     p: u32,
     far: u32,
 ) -> Result<Prim, OutOfMemory>
-    ensures { IfOk result (λ made. component_of made ≡ renamed (port_read (label_at labels.now) places.now p far) (component_of prim.now)) }
+    ensures { IfOk result (λ made. component_of made ≡ renamed (port_read (label_at labels.now) places.now p far)
+        (component_of prim.now)) }
 {
     match prim {
         Prim::Source { out, colours, mode } => Ok(Prim::Source {
@@ -296,7 +298,8 @@ fn planned_of(
 ) -> Result<List<Prim>, OutOfMemory>
     requires whole { length labels.now ≡ net.now.channels }
     requires places { ArePlaces labels.now places.now }
-    ensures { IfOk result (λ made. AreRenamed net.now (label_at labels.now) p (λ i. near_place (label_at labels.now) p) (map component_of made.items)) }
+    ensures { IfOk result (λ made. AreRenamed net.now (label_at labels.now) p
+        (λ i. near_place (label_at labels.now) p) (map component_of made.items)) }
 {
     let count = net.prims().as_slice().len() as u32;
     let mut made = List::new(alloc);
@@ -343,7 +346,8 @@ fn touch_count(prim: &Prim, labels: &[u8], p: u32) -> u32
 
 /// For each primitive, how many below it have a channel in part `p`: its place in the part.
 fn prim_places(alloc: Global, net: &Net, labels: &[u8], p: u32) -> Result<List<u32>, OutOfMemory>
-    ensures { IfOk result (λ made. AreNumbers (place (touches_at net.now (label_at labels.now) p)) (length net.now.prims) made.items) }
+    ensures { IfOk result (λ made. AreNumbers (place (touches_at net.now (label_at labels.now) p))
+        (length net.now.prims) made.items) }
 {
     let count = net.prims().as_slice().len() as u32;
     let mut below = 0;
@@ -384,7 +388,8 @@ fn tasks_of(
 ) -> Result<List<Task>, OutOfMemory>
     requires whole { length labels.now ≡ design.now.net.channels }
     requires places { ArePlaces labels.now places.now }
-    requires cells { AreNumbers (place (touches_at design.now.net (label_at labels.now) p)) (length design.now.net.prims) cells.now }
+    requires cells { AreNumbers (place (touches_at design.now.net (label_at labels.now) p))
+        (length design.now.net.prims) cells.now }
     ensures { IfOk result (λ made. AreTasksOf design.now (label_at labels.now) p made.items) }
 {
     let _net = design.net();
@@ -431,7 +436,8 @@ fn plan_of(
     requires prims { prims.now ≡ prims_in design.now.net (label_at labels.now) p }
     requires own { own ≡ length (channels_in design.now.net (label_at labels.now) p) }
     requires partition { IsPartition design.now.net (label_at labels.now) }
-    requires planned { AreRenamed design.now.net (label_at labels.now) p (λ i. near_place (label_at labels.now) p) (map component_of planned.now.items) }
+    requires planned { AreRenamed design.now.net (label_at labels.now) p (λ i. near_place (label_at labels.now) p)
+        (map component_of planned.now.items) }
     ensures prims { IfOk result (λ plan. plan.prims ≡ map component_of planned.now.items) }
     ensures plan { IfOk result (IsPlanOf design.now (label_at labels.now) p) }
 {
@@ -453,6 +459,7 @@ fn part_of(
     requires whole { length labels.now ≡ design.now.net.channels }
     requires places { ArePlaces labels.now places.now }
     requires partition { IsPartition design.now.net (label_at labels.now) }
+    requires labels { All (λ x. x < 64) labels.now }
     ensures { IfOk result (IsPartOf design.now (label_at labels.now) p) }
 {
     let net = design.net();
@@ -473,6 +480,7 @@ fn part_of(
         own,
     )?;
     let cuts = cuts_of(alloc, net, labels, places, p)?;
+    let neighbours = neighbours_of(alloc, net, labels, p, cuts.as_slice())?;
     Ok(Part {
         prims,
         locals,
@@ -480,6 +488,7 @@ fn part_of(
         planned,
         plan,
         cuts,
+        neighbours,
     })
 }
 
@@ -494,7 +503,8 @@ pub fn parts_of(
     requires labels { All (λ x. x < 64) labels.now }
     requires partition { IsPartition design.now.net (label_at labels.now) }
     ensures count { IfOk result (λ made. length made.items ≡ count) }
-    ensures each { IfOk result (λ made. (p : ℕ) (part : Part) → slice_get made.items p ≡ Some part → IsPartOf design.now (label_at labels.now) p part) }
+    ensures each { IfOk result (λ made. (p : ℕ) (part : Part) → slice_get made.items p ≡ Some part
+        → IsPartOf design.now (label_at labels.now) p part) }
 {
     let net = design.net();
     let _channels = net.channels();

@@ -1,8 +1,11 @@
 //! Partitions of a net, what a part has of a state and a frame, and the step of one part.
 #![tactic(auto)]
 
+mod applying;
 mod balanced;
 mod build;
+mod changes;
+mod comparing;
 mod fault;
 mod given;
 mod glue;
@@ -10,15 +13,19 @@ mod islands_of;
 mod laws;
 mod making;
 mod moves;
+mod near;
 mod part;
 mod parts;
 mod row;
 mod step;
 
+pub use applying::apply;
+pub use changes::{CellChange, Change, WireChange};
+pub use comparing::change;
 pub use fault::PartFault;
 pub use glue::Glue;
 pub use islands_of::islands;
-pub use laws::{far_law, glue_law, part_law};
+pub use laws::{far_law, fit_law, glue_law, part_law};
 pub use making::project;
 pub use moves::far;
 pub use parts::Parts;

@@ -88,7 +88,8 @@ pub fn project(
     requires cells { length s.now.cells.items ≡ length design.now.net.prims }
     requires fitting { IsFittingState design.now.net (content_at s.now.cells.items) }
     requires wires { length f.now.wires.items ≡ design.now.net.channels }
-    ensures row { IfOk result (λ row. row_of row ≡ projection design.now.net (label_at parts.now.labels) p (content_at s.now.cells.items) (signals_of f.now.wires.items)) }
+    ensures row { IfOk result (λ row. row_of row ≡ projection design.now.net (label_at parts.now.labels) p
+        (content_at s.now.cells.items) (signals_of f.now.wires.items)) }
     ensures roomy { IfOk result (IsRoomyRow design.now.net (label_at parts.now.labels) p) }
 {
     let part = parts.part(p);
@@ -129,9 +130,11 @@ fn wires_again(alloc: Global, wires: &[Wire]) -> Result<List<Wire>, OutOfMemory>
 impl PartRow {
     /// An equal row with room for the step of its part.
     pub fn copy(&self, alloc: Global, design: &Design) -> Result<PartRow, OutOfMemory>
-        requires { (k : ℕ) (x : PrimCell) → slice_get self.now.cells.items k ≡ Some x → x.prim < length design.now.net.prims }
+        requires { (k : ℕ) (x : PrimCell) → slice_get self.now.cells.items k ≡ Some x
+            → x.prim < length design.now.net.prims }
         ensures row { IfOk result (λ row. row_of row ≡ row_of self.now) }
-        ensures roomy { (label : ℕ → ℕ) (p : ℕ) → IsRoomyRow design.now.net label p self.now → IfOk result (IsRoomyRow design.now.net label p) }
+        ensures roomy { (label : ℕ → ℕ) (p : ℕ) → IsRoomyRow design.now.net label p self.now
+            → IfOk result (IsRoomyRow design.now.net label p) }
     {
         let cells = copies_of(alloc, design, self.cells.as_slice())?;
         let wires = wires_again(alloc, self.wires.as_slice())?;

@@ -14,7 +14,7 @@ pub struct Cut {
 /// primitives with each port renamed to the place of its channel in the part; the far channel of the part's cut
 /// queue number j has the place of that queue behind those of all its own channels. `plan` makes the signals of its
 /// channels, and `planned` are the primitives as the plan sees them: it reads no far channel. `cuts` are its cut
-/// queues, in primitive order.
+/// queues, in primitive order, and `neighbours` the parts in which their far channels lie.
 #[derive(Drop)]
 pub struct Part {
     pub prims: List<u32>,
@@ -23,4 +23,5 @@ pub struct Part {
     pub planned: List<Prim>,
     pub plan: Plan,
     pub cuts: List<Cut>,
+    pub neighbours: List<u32>,
 }

@@ -5,7 +5,7 @@ ghost use Rattle.xm_model.specs.Component.{Content, component_of, content_of};
 ghost use Rattle.xm_model.specs.Frame.{IsFrame};
 ghost use Rattle.xm_model.specs.Views.{choice_at};
 ghost use Rattle.xm_model.specs.Lemmas.Local.{IsPort};
-ghost use Rattle.xm_model.specs.Next.{move, next};
+ghost use Rattle.xm_model.specs.Next.{content_after, move, next};
 ghost use Rattle.xm_parts.specs.Going.{AllGoOn, CanGoOn, HasGone, HasPlace};
 ghost use Rattle.xm_model.specs.Signals.{Signals, packets_in};
 ghost use Rattle.xm_parts.specs.Kept.{label_at};
@@ -20,7 +20,7 @@ use crate::row::{FarMoves, PartRow, PrimCell};
 use xm_design::Design;
 use xm_model::{Cell, Choice, List, Prim, Wire};
 use xm_plan::moved_at;
-use xm_running::{HasCell, advance_queue};
+use xm_running::{ChangesCell, HasCell, advance_queue};
 use xm_step::advance_cell;
 
 /// Makes the packets of a queue these. There is room for them.
@@ -58,12 +58,26 @@ fn packets(cell: &Cell) -> &[u8]
     }
 }
 
+/// Makes the side that a merge prefers that of `from`. The next content of another primitive, a queue apart, asks
+/// nothing of the one before.
+fn take_side(prim: &Prim, from: &Cell, to: &mut Cell)
+    ensures { is_queue (component_of prim.now) ≡ false → (φ : Signals)
+        → content_after (component_of prim.now) (content_of to.new) φ
+        ≡ content_after (component_of prim.now) (content_of from.now) φ }
+{
+    match prim {
+        Prim::Merge { .. } => to.put_preferred(from.preferred()),
+        _ => {}
+    }
+}
+
 /// Makes `to` what a primitive holds after the cycle in which it held `from`.
 fn go_on(prim: &Prim, from: &Cell, wires: &[Wire], far: &[Option<u8>], to: &mut Cell)
     requires from { IsRoomyCell (component_of prim.now) from.now }
     requires to { IsRoomyCell (component_of prim.now) to.old }
     requires place { HasPlace (component_of prim.now) from.now (part_signals wires.now far.now) }
-    requires own { is_queue (component_of prim.now) ≡ false → (c : ℕ) → IsPort (component_of prim.now) c → c < length wires.now }
+    requires own { is_queue (component_of prim.now) ≡ false → (c : ℕ) → IsPort (component_of prim.now) c
+        → c < length wires.now }
     ensures { HasGone (component_of prim.now) from.now to.new (part_signals wires.now far.now) }
 {
     match prim {
@@ -78,14 +92,13 @@ fn go_on(prim: &Prim, from: &Cell, wires: &[Wire], far: &[Option<u8>], to: &mut 
             }
         }
         _ => {
-            *to = Cell::Pref(from.preferred());
+            take_side(prim, from, to);
             advance_cell(to, prim, wires);
         }
     }
 }
 
 /// Makes the cells of `out` what the part's primitives hold after the cycle in which they held those of `old`.
-#[inline(never)]
 fn go_on_all(
     locals: &[Prim],
     old: &[PrimCell],
@@ -93,7 +106,8 @@ fn go_on_all(
     far: &[Option<u8>],
     out: &mut [PrimCell],
 )
-    requires { CanGoOn (map component_of locals.now) old.now out.old (part_signals wires.now far.now) (length wires.now) }
+    requires { CanGoOn (map component_of locals.now) old.now out.old (part_signals wires.now far.now)
+        (length wires.now) }
     ensures { AllGoOn (map component_of locals.now) old.now out.old out.new (part_signals wires.now far.now) }
 {
     for k in 0..locals.len() {
@@ -102,12 +116,14 @@ fn go_on_all(
 }
 
 /// Makes the signals of part `p` by its plan: those of the frame of any state whose contents the cells show.
-#[inline(never)]
 fn solve(parts: &Parts, p: u32, cells: &[PrimCell], w: &[Choice], wires: &mut [Wire])
     requires part { p < parts.now.count }
     requires cells { length cells.now ≡ length (prims_in parts.now.design.net (label_at parts.now.labels) p) }
     requires wires { length wires.old ≡ length (channels_in parts.now.design.net (label_at parts.now.labels) p) }
-    ensures { (s : ℕ → Content) (φ : Signals) → ShowsState parts.now.design.net (label_at parts.now.labels) p cells.now s → IsFrame parts.now.design.net s (choice_at parts.now.design.net.prims w.now) φ → wires.new ≡ map (wire_of φ) (channels_in parts.now.design.net (label_at parts.now.labels) p) }
+    ensures { (s : ℕ → Content) (φ : Signals)
+        → ShowsState parts.now.design.net (label_at parts.now.labels) p cells.now s
+        → IsFrame parts.now.design.net s (choice_at parts.now.design.net.prims w.now) φ
+        → wires.new ≡ map (wire_of φ) (channels_in parts.now.design.net (label_at parts.now.labels) p) }
 {
     let _count = parts.count();
     let part = parts.part(p);
@@ -131,7 +147,10 @@ pub fn part_step(
     requires cycle { IsCycle design.now.net (label_at parts.now.labels) p (row_of old.now) far.now }
     requires old { IsRoomyRow design.now.net (label_at parts.now.labels) p old.now }
     requires out { IsRoomyRow design.now.net (label_at parts.now.labels) p out.old }
-    ensures step { (at : IsCycle design.now.net (label_at parts.now.labels) p (row_of old.now) far.now) (φ : Signals) → IsFrame design.now.net (next design.now.net at.state at.frame) (choice_at design.now.net.prims w.now) φ → row_of out.new ≡ projection design.now.net (label_at parts.now.labels) p (next design.now.net at.state at.frame) φ }
+    ensures step { (at : IsCycle design.now.net (label_at parts.now.labels) p (row_of old.now) far.now) (φ : Signals)
+        → IsFrame design.now.net (next design.now.net at.state at.frame) (choice_at design.now.net.prims w.now) φ
+        → row_of out.new ≡ projection design.now.net (label_at parts.now.labels) p
+        (next design.now.net at.state at.frame) φ }
     ensures roomy { IsRoomyRow design.now.net (label_at parts.now.labels) p out.new }
 {
     let _net = design.net();

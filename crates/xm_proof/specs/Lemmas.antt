@@ -1,4 +1,5 @@
 -- Lemmas that proofs cite.
 pub mod Integers
+pub mod QueuePairs
 pub mod Refuting
 pub mod Weighing

@@ -1,4 +1,5 @@
 pub mod Argument
+pub mod Form
 pub mod Lemmas
 pub mod Sums
 pub mod Tests

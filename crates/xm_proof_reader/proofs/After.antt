@@ -1,5 +1,5 @@
 -- Lemmas: a loop that takes a step for each item, which sees what the item before gave.
-use Rattle.std.proofs.Common.{◌≡◌, ℕ, suc, ◌+◌, ◌<◌, List, [], ◌∷◌, ◌++◌, length, get_or, drop, map, Option, Some, Result, Ok, refl, sym, ◌∙◌, add-one}
+use Rattle.std.proofs.Common.{◌≡◌, ℕ, suc, ◌+◌, ◌<◌, List, [], ◌∷◌, ◌++◌, length, get_or, drop, map, Option, Some, Result, Ok, sym, ◌∙◌, add-one}
 use Rattle.xm_json.specs.Lemmas.Lists.{cut_at}
 use Rattle.xm_json.specs.Lemmas.Walk.{regroup, with_front}
 use Rattle.xm_json.specs.Path.{Path}

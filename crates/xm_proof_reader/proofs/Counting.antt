@@ -1,8 +1,8 @@
 -- Lemmas: nodes that are counted as trees.
-use Rattle.std.proofs.Common.{◌≡◌, ◌<◌, ℕ, zero, suc, List, [], ◌∷◌, map, drop, length, false, refl, sym, ap, ◌∙◌, arith}
+use Rattle.std.proofs.Common.{◌≡◌, ◌<◌, ℕ, zero, suc, List, [], ◌∷◌, map, drop, length, false, refl, sym, arith}
 use Rattle.xm_proof.specs.Argument.{step_of}
 use Rattle.xm_proof.specs.declared.proof.Node.{Node}
-use Rattle.xm_proof_reader.specs.Reading.{are_trees}
+use Rattle.xm_proof.specs.Form.{are_trees}
 
 -- no tree is left, but nodes are
 none_left : (nodes : List Node) (i : ℕ) → i < length nodes → are_trees 0 (map step_of (drop i nodes)) ≡ false

@@ -1,7 +1,7 @@
 -- Lemmas: the terms of a lemma that was read make a row.
-use Rattle.std.proofs.Common.{◌≡◌, ◌≢◌, ◌<◌, ◌^◌, ℕ, zero, suc, Bool, true, false, List, [], ◌∷◌, Option, Some, None, Result, Ok, Err, refl, sym, subst, ap, pos, ℤ, negsuc, int_eq, ltb-true, All, arith, FitsSigned}
+use Rattle.std.proofs.Common.{◌≡◌, ◌≢◌, ℕ, suc, Bool, true, false, List, [], ◌∷◌, Option, Some, None, Result, Ok, Err, refl, sym, subst, pos, ℤ, negsuc, int_eq, ltb-true, All, arith, FitsSigned}
 use Rattle.std.specs.Int.{w128}
-use Rattle.std.specs.Prelude.{◌&&◌, ⊤, nat_lt, not, if◌then◌else◌, option_and_then, unsigned_abs, IfSome, IfOk}
+use Rattle.std.specs.Prelude.{◌&&◌, nat_lt, not, if◌then◌else◌, option_and_then, IfSome, IfOk}
 use Rattle.std.specs.Fmt.{signed_decimal}
 use Rattle.std.specs.Str.{bytes_eq}
 use Rattle.std.specs.Str.Parse.{signed_digits_value}
@@ -20,7 +20,7 @@ use Rattle.xm_model.specs.Steps.{demand}
 use Rattle.xm_proof.specs.Sums.{fits128}
 use Rattle.xm_proof_reader.specs.Known.{Known, pair_from}
 use Rattle.xm_proof_reader.specs.Numbers.{number_of}
-use Rattle.xm_proof_reader.specs.Reading.{colour_at, each_after, follows, number_at, queue_at, term_at, term_in, term_of_items}
+use Rattle.xm_proof_reader.specs.Reading.{each_after, follows, number_at, queue_and_colour, term_at, term_in, term_of_items}
 use Rattle.xm_rows.specs.Row.{Fits128, IsRising, IsRow}
 use Rattle.xm_rows.specs.declared.row.Entry.{Entry}
 
@@ -49,9 +49,8 @@ read_fits path d n e = text_fits (as_str d) n (demanded (option_and_then number_
 term_fits : (known : Known) (path : Path) (a b c : Data) (e : Entry) → term_in known path a b c ≡ Ok e → Fits128 e.value
 unfolding term_in
 term_fits known path a b c e is =
-    let q = bound (queue_at known (place_of path 0) a) _ e is in
-    let d = bound (colour_at known (place_of path 1) b) _ e q.2 in
-    let k = bound (demand (pair_from 0 known.pairs q.0 d.0) (place_of path 1)) _ e d.2 in
+    let pair = bound (queue_and_colour known path 0 a b) _ e is in
+    let k = bound (demand (pair_from 0 known.pairs pair.0.0 pair.0.1) (place_of path 1)) _ e pair.2 in
     let v = bound (number_at (place_of path 2) c) _ e k.2 in
     let same : v.0 ≡ e.value = cc (v.2) in
     subst Fits128 same (read_fits _ c v.0 v.1)

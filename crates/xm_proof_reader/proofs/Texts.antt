@@ -1,6 +1,6 @@
 -- Lemmas: decimal texts of 128 bits.
-use Rattle.std.proofs.Common.{◌≡◌, ◌<◌, ◌^◌, ℕ, zero, suc, Bool, true, false, List, [], ◌∷◌, Option, Some, None, Result, Ok, Err, refl, ap, subst, sym, ◌∙◌, arith, pos, negsuc, ℤ, ltb-true}
-use Rattle.std.specs.Prelude.{unsigned_abs, neg_ℤ, if◌then◌else◌, ◌&&◌, nat_lt}
+use Rattle.std.proofs.Common.{◌≡◌, ◌<◌, ◌^◌, ℕ, suc, Bool, true, false, List, ◌∷◌, Some, None, Result, Ok, Err, refl, ap, subst, sym, ◌∙◌, arith, pos, negsuc, ℤ, ltb-true}
+use Rattle.std.specs.Prelude.{unsigned_abs, neg_ℤ, if◌then◌else◌, ◌&&◌}
 use Rattle.std.specs.Fmt.{decimal, signed_decimal}
 use Rattle.std.specs.Str.{bytes_eq}
 use Rattle.std.specs.Str.Parse.{ParsesSigned, signed_digits_value}
@@ -12,7 +12,6 @@ use Rattle.std.proofs.lemmas.Str.Parse.{numerals_by_value, tells_digits, parse_s
 use Rattle.xm_proof.specs.Sums.{fits128}
 use Rattle.xm_proof_reader.specs.Numbers.{number_of}
 use mir.Syntax.{w128}
-use lib.Signed.{mag}
 
 pub parse_wide : {E : Type 0} (z : ℤ) (bs : List ℕ) (r : Result ℤ E) → unsigned_abs z < 2 ^ 127 → bs ≡ signed_decimal z → ParsesSigned w128 10 bs r → r ≡ Ok z
 parse_wide (pos n) bs r small is h =

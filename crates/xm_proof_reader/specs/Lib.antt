@@ -1,5 +1,7 @@
 pub mod Gives
 pub mod Inner
 pub mod Known
+pub mod Lemmas
 pub mod Numbers
 pub mod Reading
+pub mod Views

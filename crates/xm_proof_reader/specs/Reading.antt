@@ -1,5 +1,5 @@
 -- Which proof a value is, or the path of its first break.
-use Rattle.std.specs.Prelude.{ℕ, zero, suc, ◌+◌, ◌-◌, ◌^◌, List, [], ◌∷◌, Bool, true, false, ◌&&◌, not, nat_lt, length, is_some, if◌then◌else◌, Option, Some, None, option_and_then, slice_get, ⊤, Result, Ok, Err, codes, ℤ, pos}
+use Rattle.std.specs.Prelude.{ℕ, suc, ◌+◌, ◌-◌, ◌^◌, List, [], ◌∷◌, Bool, true, false, ◌&&◌, not, nat_lt, length, is_some, if◌then◌else◌, Option, Some, None, option_and_then, Result, Ok, Err, codes, ℤ, pos}
 use Rattle.std.specs.Ordering.{int_eq}
 use Rattle.std.specs.Str.{bytes_eq}
 use Rattle.serde_json.specs.Data.{Data}
@@ -15,6 +15,7 @@ use Rattle.xm_lits.specs.declared.literal.Lit.{Lit}
 use Rattle.xm_lits.specs.declared.literal.Lit.TheVariants.{Stuck, Dead, Idle, Full, Has, Lacks}
 use Rattle.xm_model.specs.Steps.{◌>>=◌, check, demand, each}
 use Rattle.xm_proof.specs.Argument.{Argument, Cite, Clash, Eager, Open, Refutation, Split, Step, Sum}
+use Rattle.xm_proof.specs.Form.{are_trees}
 use Rattle.xm_proof.specs.declared.proof.Item.{Item}
 use Rattle.xm_proof.specs.declared.proof.Item.TheVariants as item
 use Rattle.xm_rows.specs.declared.row.Entry.{Entry}
@@ -55,44 +56,43 @@ queue_at known path d = demand (option_and_then (queue_named known) (as_str d)) 
 
 -- ---- literals
 
-unfoldable pub stuck_literal : Known → Path → Data → Result Lit Path
-stuck_literal known path second = do
-  c ← channel_at known (place_of path 1) second
-  Ok (Stuck c)
-
-unfoldable pub full_literal : Known → Path → Data → Result Lit Path
-full_literal known path second = do
-  q ← queue_at known (place_of path 1) second
-  Ok (Full q)
-
 -- of two items: a word and a channel or a queue
 unfoldable pub short_literal : Known → Path → Data → Data → Result Lit Path
 short_literal known path first second = do
   word ← text_at path first
-  if bytes_eq word (codes "Stuck") then stuck_literal known path second
-      else (if bytes_eq word (codes "Full") then full_literal known path second
+  if bytes_eq word (codes "Stuck") then (do
+    c ← channel_at known (place_of path 1) second
+    Ok (Stuck c))
+      else (if bytes_eq word (codes "Full") then (do
+        q ← queue_at known (place_of path 1) second
+        Ok (Full q))
       else Err path)
 
-unfoldable pub channel_literal : (ℕ → ℕ → Lit) → Known → Path → Data → Data → Result Lit Path
-channel_literal literal known path second third = do
-  c ← channel_at known (place_of path 1) second
-  d ← colour_at known (place_of path 2) third
-  Ok (literal c d)
+-- a channel and a colour, after the word
+unfoldable pub channel_and_colour : Known → Path → Data → Data → Result (ℕ × ℕ) Path
+channel_and_colour known path first second = do
+  c ← channel_at known (place_of path 1) first
+  d ← colour_at known (place_of path 2) second
+  Ok (c, d)
 
-unfoldable pub queue_literal : (ℕ → ℕ → Lit) → Known → Path → Data → Data → Result Lit Path
-queue_literal literal known path second third = do
-  q ← queue_at known (place_of path 1) second
-  d ← colour_at known (place_of path 2) third
-  Ok (literal q d)
+-- a queue and a colour, from a place on
+unfoldable pub queue_and_colour : Known → Path → ℕ → Data → Data → Result (ℕ × ℕ) Path
+queue_and_colour known path place first second = do
+  q ← queue_at known (place_of path place) first
+  d ← colour_at known (place_of path (place + 1)) second
+  Ok (q, d)
+
+abbrev pub pair_literal : (ℕ → ℕ → Lit) → ℕ × ℕ → Result Lit Path
+pair_literal literal pair = Ok (literal pair.0 pair.1)
 
 -- of three: a word, a channel or a queue, and a colour
 unfoldable pub long_literal : Known → Path → Data → Data → Data → Result Lit Path
 long_literal known path first second third = do
   word ← text_at path first
-  if bytes_eq word (codes "Dead") then channel_literal Dead known path second third
-      else (if bytes_eq word (codes "Idle") then channel_literal Idle known path second third
-      else (if bytes_eq word (codes "Has") then queue_literal Has known path second third
-      else (if bytes_eq word (codes "Lacks") then queue_literal Lacks known path second third
+  if bytes_eq word (codes "Dead") then channel_and_colour known path second third >>= pair_literal Dead
+      else (if bytes_eq word (codes "Idle") then channel_and_colour known path second third >>= pair_literal Idle
+      else (if bytes_eq word (codes "Has") then queue_and_colour known path 1 second third >>= pair_literal Has
+      else (if bytes_eq word (codes "Lacks") then queue_and_colour known path 1 second third >>= pair_literal Lacks
       else Err path)))
 
 abbrev pub literal_of_items : Known → Path → List Data → Result Lit Path
@@ -141,10 +141,9 @@ short_item known path first second third = do
 
 unfoldable pub low_item : Known → Path → Data → Data → Data → Result Item Path
 low_item known path second third fourth = do
-  q ← queue_at known (place_of path 1) second
-  d ← colour_at known (place_of path 2) third
+  pair ← queue_and_colour known path 1 second third
   n ← number_at (place_of path 3) fourth
-  Ok (item.Low q d n)
+  Ok (item.Low pair.0 pair.1 n)
 
 -- of four: a word, a queue, a colour and a number
 unfoldable pub long_item : Known → Path → Data → Data → Data → Data → Result Item Path
@@ -309,21 +308,6 @@ node_at known path d =
 
 -- ---- goals
 
-abbrev pub kids_in : Step → ℕ
-kids_in (Split name on via kids) = kids
-kids_in (Clash one other) = 0
-kids_in (Eager c) = 0
-kids_in (Sum items) = 0
-kids_in (Cite place) = 0
-kids_in Open = 0
-
--- the nodes are exactly so many trees in preorder, one after another
-abbrev pub are_trees : ℕ → List Step → Bool
-are_trees zero [] = true
-are_trees (suc n) [] = false
-are_trees zero (step ∷ steps) = false
-are_trees (suc n) (step ∷ steps) = are_trees (kids_in step + n) steps
-
 unfoldable pub steps_in : Known → Path → Data → Result (List Step) Path
 steps_in known path d = do
   values ← items_member path (codes "tree") d
@@ -378,9 +362,8 @@ part_at path before d = do
 -- a queue, a colour that makes a queue pair with it, and a number; its column is the place of the queue pair
 unfoldable pub term_in : Known → Path → Data → Data → Data → Result Entry Path
 term_in known path first second third = do
-  q ← queue_at known (place_of path 0) first
-  d ← colour_at known (place_of path 1) second
-  column ← demand (pair_from 0 known.pairs q d) (place_of path 1)
+  pair ← queue_and_colour known path 0 first second
+  column ← demand (pair_from 0 known.pairs pair.0 pair.1) (place_of path 1)
   value ← number_at (place_of path 2) third
   Ok (record { column = column; value = value })
 

@@ -6,7 +6,8 @@ ghost use Rattle.xm_json.specs.Gives.{Gives};
 ghost use Rattle.xm_json.specs.Path.{place_of};
 ghost use Rattle.xm_model.specs.Steps.{each};
 ghost use Rattle.xm_proof.specs.Argument.{refutation_of, step_of};
-ghost use Rattle.xm_proof_reader.specs.Inner.Views.{known_of};
+ghost use Rattle.xm_proof.specs.Form as form;
+ghost use Rattle.xm_proof_reader.specs.Views.{known_of};
 ghost use Rattle.xm_proof_reader.specs.Reading as spec;
 
 use crate::known::Known;
@@ -40,7 +41,7 @@ fn nodes_in(
 
 /// How many nodes stand below a node.
 fn kids_of(node: &Node) -> u32
-    ensures { result ≡ spec.kids_in (step_of node.now) }
+    ensures { result ≡ form.kids_of (step_of node.now) }
 {
     match node {
         Node::Split { kids, .. } => *kids,
@@ -51,7 +52,7 @@ fn kids_of(node: &Node) -> u32
 /// Whether the nodes are one tree in preorder.
 fn is_one_tree(nodes: &[Node]) -> bool
     requires { length nodes.now < 2 ^ 32 }
-    ensures { result ≡ spec.are_trees 1 (map step_of nodes.now) }
+    ensures { result ≡ form.are_trees 1 (map step_of nodes.now) }
 {
     let mut left: u64 = 1;
     for i in 0..nodes.len() {

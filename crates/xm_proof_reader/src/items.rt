@@ -4,12 +4,13 @@ ghost use Rattle.std.specs.Prelude.{◌≡◌, map};
 ghost use Rattle.serde_json.specs.View.{view};
 ghost use Rattle.xm_json.specs.Gives.{Gives};
 ghost use Rattle.xm_json.specs.Path.{place_of};
-ghost use Rattle.xm_proof_reader.specs.Inner.Views.{known_of};
+ghost use Rattle.xm_proof_reader.specs.Views.{known_of};
 ghost use Rattle.xm_proof_reader.specs.Reading as spec;
 
-use crate::known::Known;
-use crate::literals::{colour_at_place, literal_at_place, queue_at_place};
-use crate::numbers::{number_at_place, place_at_place};
+use crate::found::at_place;
+use crate::known::{Known, queue_in};
+use crate::literals::{literal_at_place, queue_and_colour};
+use crate::numbers::{number_in, place_at_place};
 use serde_json::Value;
 use std::alloc::Global;
 use xm_json::{PathFault, list_at, text_at};
@@ -22,7 +23,7 @@ fn lemma_item(alloc: Global, path: &str, second: &Value, third: &Value) -> Resul
         (spec.lemma_item path.now (view second.now) (view third.now)) }
 {
     let place = place_at_place(alloc, path, 1, second)?;
-    let number = number_at_place(alloc, path, 2, third)?;
+    let number = at_place(alloc, path, 2, number_in(third))?;
     Ok(Item::Lemma(place, number))
 }
 
@@ -37,8 +38,8 @@ fn cap_item(
     ensures { Gives (λ i. i) result
         (spec.cap_item (known_of known.now) path.now (view second.now) (view third.now)) }
 {
-    let q = queue_at_place(alloc, known, path, 1, second)?;
-    let number = number_at_place(alloc, path, 2, third)?;
+    let q = at_place(alloc, path, 1, queue_in(known, second))?;
+    let number = at_place(alloc, path, 2, number_in(third))?;
     Ok(Item::Cap(q, number))
 }
 
@@ -54,7 +55,7 @@ fn path_item(
         (spec.path_item (known_of known.now) path.now (view second.now) (view third.now)) }
 {
     let lit = literal_at_place(alloc, known, path, 1, second)?;
-    let number = number_at_place(alloc, path, 2, third)?;
+    let number = at_place(alloc, path, 2, number_in(third))?;
     Ok(Item::Path(lit, number))
 }
 
@@ -91,9 +92,8 @@ fn low_item(
     ensures { Gives (λ i. i) result
         (spec.low_item (known_of known.now) path.now (view second.now) (view third.now) (view fourth.now)) }
 {
-    let q = queue_at_place(alloc, known, path, 1, second)?;
-    let d = colour_at_place(alloc, known, path, 2, third)?;
-    let number = number_at_place(alloc, path, 3, fourth)?;
+    let (q, d) = queue_and_colour(alloc, known, path, 1, second, third)?;
+    let number = at_place(alloc, path, 3, number_in(fourth))?;
     Ok(Item::Low(q, d, number))
 }
 

@@ -1,41 +1,55 @@
 //! What a reader of proofs knows: the design, its names and its queue pairs.
 
-ghost use Rattle.std.specs.Prelude.{◌≡◌, Some, option_and_then};
+ghost use Rattle.std.specs.Prelude.{◌≡◌, IfOk, Some, option_and_then, slice_get};
 ghost use Rattle.serde_json.specs.Find.{as_str};
 ghost use Rattle.serde_json.specs.View.{view};
-ghost use Rattle.xm_model.specs.Naming.{texts_of};
-ghost use Rattle.xm_proof_reader.specs.Inner.Views.{known_of};
+ghost use Rattle.xm_model.specs.Naming.{naming_of};
+ghost use Rattle.xm_proof.specs.Tests.{queue_columns};
+ghost use Rattle.xm_proof_reader.specs.Inner.Outputs.{output_of};
+ghost use Rattle.xm_proof_reader.specs.Views.{known_of};
 ghost use Rattle.xm_proof_reader.specs.Known as spec;
 
+use crate::name_table::NameTable;
 use serde_json::Value;
+use std::alloc::Global;
 use xm_design::Design;
-use xm_model::{List, Names, Prim, Text};
+use xm_model::{Names, OutOfMemory, Prim};
 
-/// The design, its names, and its queue pairs in their order.
+/// The design whose net a proof speaks of, and the names of its primitives, channels and colours.
 #[derive(Drop)]
 pub struct Known<'a> {
     pub design: &'a Design,
-    pub names: &'a Names,
-    pub pairs: List<(u32, u8)>,
+    pub prims: NameTable<'a>,
+    pub channels: NameTable<'a>,
+    pub colours: NameTable<'a>,
 }
 
-/// The first place of a name.
-fn place_of(names: &[Text], name: &str) -> Option<usize>
-    ensures { result ≡ spec.place_from 0 (texts_of names.now) name.now }
-{
-    for (i, known) in names.iter().enumerate() {
-        if known.as_bytes() == name.as_bytes() {
-            return Some(i);
-        }
+impl<'a> Known<'a> {
+    /// What is known of a design by these names, in time that grows with the names. Fails only for want of memory.
+    pub fn new(
+        alloc: Global,
+        design: &'a Design,
+        names: &'a Names,
+    ) -> Result<Known<'a>, OutOfMemory>
+        ensures { IfOk result (λ known. known_of known ≡ spec.known_by design.now (naming_of names.now)) }
+    {
+        let prims = NameTable::new(alloc, names.prims.as_slice())?;
+        let channels = NameTable::new(alloc, names.channels.as_slice())?;
+        let colours = NameTable::new(alloc, names.colours.as_slice())?;
+        Ok(Known {
+            design,
+            prims,
+            channels,
+            colours,
+        })
     }
-    None
 }
 
 /// The number of the channel with this name.
 fn channel_named(known: &Known<'_>, name: &str) -> Option<u32>
     ensures { result ≡ spec.channel_named (known_of known.now) name.now }
 {
-    match place_of(known.names.channels.as_slice(), name) {
+    match known.channels.place(name) {
         Some(c) if c < known.design.net().channels() as usize => Some(c as u32),
         _ => None,
     }
@@ -45,7 +59,7 @@ fn channel_named(known: &Known<'_>, name: &str) -> Option<u32>
 fn colour_named(known: &Known<'_>, name: &str) -> Option<u8>
     ensures { result ≡ spec.colour_named (known_of known.now) name.now }
 {
-    match place_of(known.names.colours.as_slice(), name) {
+    match known.colours.place(name) {
         Some(d) if d < known.design.net().colours() as usize => Some(d as u8),
         _ => None,
     }
@@ -53,7 +67,7 @@ fn colour_named(known: &Known<'_>, name: &str) -> Option<u8>
 
 /// The place as a number, where it is that of a queue.
 fn queue_number(design: &Design, place: usize) -> Option<u32>
-    ensures { result ≡ spec.only_queue design.now (Some place) }
+    ensures { result ≡ spec.only_queue design.now.net (Some place) }
 {
     let net = design.net();
     if place >= net.prims().len() {
@@ -69,7 +83,7 @@ fn queue_number(design: &Design, place: usize) -> Option<u32>
 fn queue_named(known: &Known<'_>, name: &str) -> Option<u32>
     ensures { result ≡ spec.queue_named (known_of known.now) name.now }
 {
-    match place_of(known.names.prims.as_slice(), name) {
+    match known.prims.place(name) {
         Some(place) => queue_number(known.design, place),
         None => None,
     }
@@ -105,14 +119,30 @@ pub fn queue_in(known: &Known<'_>, value: &Value) -> Option<u32>
     }
 }
 
-/// The place of a queue pair among all.
-pub fn pair_place(pairs: &[(u32, u8)], q: u32, d: u8) -> Option<usize>
-    ensures { result ≡ spec.pair_from 0 pairs.now q d }
+/// The output of the primitive with this number, where it is a queue.
+fn queue_output(design: &Design, q: u32) -> Option<u32>
+    ensures { result ≡ output_of (slice_get design.now.net.prims q) }
 {
-    for i in 0..pairs.len() {
-        if pairs[i].0 == q && pairs[i].1 == d {
-            return Some(i);
-        }
+    let net = design.net();
+    if q as usize >= net.prims().len() {
+        return None;
     }
-    None
+    match net.prim(q) {
+        Prim::Queue { out, .. } => Some(*out),
+        _ => None,
+    }
+}
+
+/// The place of a queue pair among all.
+pub fn pair_place(design: &Design, q: u32, d: u8) -> Option<u32>
+    ensures { result ≡ spec.pair_from 0 (queue_columns design.now) q d }
+{
+    design.is_designed();
+    let Some(out) = queue_output(design, q) else {
+        return None;
+    };
+    if !design.colours().has(out, d) {
+        return None;
+    }
+    Some(design.queue_pair(q, d))
 }

@@ -5,20 +5,20 @@ ghost use Rattle.serde_json.specs.View.{view};
 ghost use Rattle.xm_flow.specs.ValidLemma.{lemma_of};
 ghost use Rattle.xm_json.specs.Gives.{Gives};
 ghost use Rattle.xm_json.specs.Path.{place_of};
-ghost use Rattle.xm_model.specs.Steps.{demand, each};
-ghost use Rattle.xm_proof_reader.specs.Inner.Views.{known_of};
+ghost use Rattle.xm_model.specs.Steps.{each};
 ghost use Rattle.xm_proof_reader.specs.Reading as spec;
 ghost use Rattle.xm_rows.specs.Row.{Fits128, IsRow};
-ghost use Rattle.xm_proof_reader.specs.Known.{pair_from};
+ghost use Rattle.xm_proof_reader.specs.Views.{known_of};
 
+use crate::found::at_place;
 use crate::known::{Known, pair_place};
 use crate::lists::items_member;
-use crate::literals::{colour_at_place, queue_at_place};
-use crate::numbers::{number_at_place, number_member, place_at_place};
+use crate::literals::queue_and_colour;
+use crate::numbers::{number_in, number_member, place_at_place};
 use serde_json::Value;
 use std::alloc::Global;
 use xm_flow::{Invariant, Part};
-use xm_json::{PathFault, list_at, member_path, only, place_path, place_text};
+use xm_json::{PathFault, list_at, member_path, only, place_path};
 use xm_model::{List, Text};
 use xm_rows::{Entry, Row};
 
@@ -29,7 +29,7 @@ fn part_of_items(alloc: Global, path: &str, items: &[Value]) -> Result<Part, Pat
     match items {
         [first, second] => {
             let flow = place_at_place(alloc, path, 0, first)?;
-            let factor = number_at_place(alloc, path, 1, second)?;
+            let factor = at_place(alloc, path, 1, number_in(second))?;
             Ok(Part { flow, factor })
         }
         _ => Err(PathFault::Broken(Text::from_bytes(alloc, path.as_bytes())?)),
@@ -100,26 +100,6 @@ fn rows_in(alloc: Global, path: &str, lemma: &Value) -> Result<List<Part>, PathF
     parts_in(alloc, place.as_str(), values)
 }
 
-/// The column of a queue pair, whose colour stands at a place of the list at `path`.
-fn column_at_place(
-    alloc: Global,
-    known: &Known<'_>,
-    path: &str,
-    place: usize,
-    q: u32,
-    d: u8,
-) -> Result<u32, PathFault>
-    ensures { Gives (λ k. k) result
-        (demand (pair_from 0 (known_of known.now).pairs q d) (place_of path.now place)) }
-{
-    match pair_place(known.pairs.as_slice(), q, d) {
-        Some(column) if column <= u32::MAX as usize => Ok(column as u32),
-        // a net has far fewer queue pairs
-        Some(_) => Err(PathFault::OutOfMemory),
-        None => Err(PathFault::Broken(place_text(alloc, path, place)?)),
-    }
-}
-
 #[tactic(auto, unfolding(crate::specs::Reading::term_in))]
 fn term_in(
     alloc: Global,
@@ -132,10 +112,9 @@ fn term_in(
     ensures { Gives (λ e. e) result
         (spec.term_in (known_of known.now) path.now (view first.now) (view second.now) (view third.now)) }
 {
-    let q = queue_at_place(alloc, known, path, 0, first)?;
-    let d = colour_at_place(alloc, known, path, 1, second)?;
-    let column = column_at_place(alloc, known, path, 1, q, d)?;
-    let value = number_at_place(alloc, path, 2, third)?;
+    let (q, d) = queue_and_colour(alloc, known, path, 0, first, second)?;
+    let column = at_place(alloc, path, 1, pair_place(known.design, q, d))?;
+    let value = at_place(alloc, path, 2, number_in(third))?;
     Ok(Entry { column, value })
 }
 

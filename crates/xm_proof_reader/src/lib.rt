@@ -2,15 +2,19 @@
 #![tactic(auto)]
 
 mod fault;
+mod found;
 mod goals;
 mod items;
 mod known;
 mod lemmas;
 mod lists;
 mod literals;
+mod name_table;
 mod nodes;
 mod numbers;
 mod read;
 
 pub use fault::ProofFault;
+pub use known::Known;
+pub use name_table::NameTable;
 pub use read::read_proof;

@@ -1,81 +1,20 @@
 //! Names and literals.
 
-ghost use Rattle.std.specs.Prelude.{◌≡◌, map};
+ghost use Rattle.std.specs.Prelude.{◌<◌, map};
 ghost use Rattle.serde_json.specs.View.{view};
 ghost use Rattle.xm_json.specs.Gives.{Gives};
 ghost use Rattle.xm_json.specs.Members as members;
 ghost use Rattle.xm_json.specs.Path.{member_of, place_of};
-ghost use Rattle.xm_lits.specs.declared.literal.Lit.TheVariants as lits;
-ghost use Rattle.xm_proof_reader.specs.Inner.Views.{known_of};
+ghost use Rattle.xm_proof_reader.specs.Views.{known_of};
 ghost use Rattle.xm_proof_reader.specs.Reading as spec;
 
+use crate::found::{at_path, at_place};
 use crate::known::{Known, channel_in, colour_in, queue_in};
 use serde_json::Value;
 use std::alloc::Global;
-use xm_json::{PathFault, list_at, member_path, place_path, place_text, required, text_at};
+use xm_json::{PathFault, list_at, member_path, place_path, required, text_at};
 use xm_lits::Lit;
 use xm_model::Text;
-
-/// The channel that is named at a place of the list at `path`.
-fn channel_at_place(
-    alloc: Global,
-    known: &Known<'_>,
-    path: &str,
-    place: usize,
-    value: &Value,
-) -> Result<u32, PathFault>
-    ensures { Gives (λ c. c) result
-        (spec.channel_at (known_of known.now) (place_of path.now place) (view value.now)) }
-{
-    match channel_in(known, value) {
-        Some(c) => Ok(c),
-        None => Err(PathFault::Broken(place_text(alloc, path, place)?)),
-    }
-}
-
-/// The colour that is named at a place of the list at `path`.
-pub fn colour_at_place(
-    alloc: Global,
-    known: &Known<'_>,
-    path: &str,
-    place: usize,
-    value: &Value,
-) -> Result<u8, PathFault>
-    ensures { Gives (λ d. d) result
-        (spec.colour_at (known_of known.now) (place_of path.now place) (view value.now)) }
-{
-    match colour_in(known, value) {
-        Some(d) => Ok(d),
-        None => Err(PathFault::Broken(place_text(alloc, path, place)?)),
-    }
-}
-
-/// The queue that is named at a place of the list at `path`.
-pub fn queue_at_place(
-    alloc: Global,
-    known: &Known<'_>,
-    path: &str,
-    place: usize,
-    value: &Value,
-) -> Result<u32, PathFault>
-    ensures { Gives (λ q. q) result
-        (spec.queue_at (known_of known.now) (place_of path.now place) (view value.now)) }
-{
-    match queue_in(known, value) {
-        Some(q) => Ok(q),
-        None => Err(PathFault::Broken(place_text(alloc, path, place)?)),
-    }
-}
-
-/// The channel that the value at `path` names.
-fn channel_at(alloc: Global, known: &Known<'_>, path: &str, value: &Value) -> Result<u32, PathFault>
-    ensures { Gives (λ c. c) result (spec.channel_at (known_of known.now) path.now (view value.now)) }
-{
-    match channel_in(known, value) {
-        Some(c) => Ok(c),
-        None => Err(PathFault::Broken(Text::from_bytes(alloc, path.as_bytes())?)),
-    }
-}
 
 /// The channel that the member `key` of the object at `path` names.
 pub fn channel_member(
@@ -90,17 +29,7 @@ pub fn channel_member(
 {
     let path = member_path(alloc, path, key)?;
     let value = required(alloc, path.as_str(), key, object)?;
-    channel_at(alloc, known, path.as_str(), value)
-}
-
-/// The colour that the value at `path` names.
-fn colour_at(alloc: Global, known: &Known<'_>, path: &str, value: &Value) -> Result<u8, PathFault>
-    ensures { Gives (λ d. d) result (spec.colour_at (known_of known.now) path.now (view value.now)) }
-{
-    match colour_in(known, value) {
-        Some(d) => Ok(d),
-        None => Err(PathFault::Broken(Text::from_bytes(alloc, path.as_bytes())?)),
-    }
+    at_path(alloc, path.as_str(), channel_in(known, value))
 }
 
 /// The colour that the member `key` of the object at `path` names.
@@ -116,33 +45,7 @@ pub fn colour_member(
 {
     let path = member_path(alloc, path, key)?;
     let value = required(alloc, path.as_str(), key, object)?;
-    colour_at(alloc, known, path.as_str(), value)
-}
-
-#[tactic(auto, unfolding(crate::specs::Reading::stuck_literal))]
-fn stuck_literal(
-    alloc: Global,
-    known: &Known<'_>,
-    path: &str,
-    second: &Value,
-) -> Result<Lit, PathFault>
-    ensures { Gives (λ l. l) result (spec.stuck_literal (known_of known.now) path.now (view second.now)) }
-{
-    let c = channel_at_place(alloc, known, path, 1, second)?;
-    Ok(Lit::Stuck(c))
-}
-
-#[tactic(auto, unfolding(crate::specs::Reading::full_literal))]
-fn full_literal(
-    alloc: Global,
-    known: &Known<'_>,
-    path: &str,
-    second: &Value,
-) -> Result<Lit, PathFault>
-    ensures { Gives (λ l. l) result (spec.full_literal (known_of known.now) path.now (view second.now)) }
-{
-    let q = queue_at_place(alloc, known, path, 1, second)?;
-    Ok(Lit::Full(q))
+    at_path(alloc, path.as_str(), colour_in(known, value))
 }
 
 /// A literal of two items: a word, and a channel or a queue.
@@ -158,74 +61,46 @@ fn short_literal(
         (spec.short_literal (known_of known.now) path.now (view first.now) (view second.now)) }
 {
     match text_at(alloc, path, first)? {
-        "Stuck" => stuck_literal(alloc, known, path, second),
-        "Full" => full_literal(alloc, known, path, second),
+        "Stuck" => Ok(Lit::Stuck(at_place(alloc, path, 1, channel_in(known, second))?)),
+        "Full" => Ok(Lit::Full(at_place(alloc, path, 1, queue_in(known, second))?)),
         _ => Err(PathFault::Broken(Text::from_bytes(alloc, path.as_bytes())?)),
     }
 }
 
-#[tactic(auto, unfolding(crate::specs::Reading::channel_literal))]
-fn dead_literal(
+/// A channel and a colour, which stand behind the word of a literal.
+#[tactic(auto, unfolding(crate::specs::Reading::channel_and_colour))]
+fn channel_and_colour(
     alloc: Global,
     known: &Known<'_>,
     path: &str,
+    first: &Value,
     second: &Value,
-    third: &Value,
-) -> Result<Lit, PathFault>
-    ensures { Gives (λ l. l) result
-        (spec.channel_literal lits.Dead (known_of known.now) path.now (view second.now) (view third.now)) }
+) -> Result<(u32, u8), PathFault>
+    ensures { Gives (λ pair. pair) result
+        (spec.channel_and_colour (known_of known.now) path.now (view first.now) (view second.now)) }
 {
-    let c = channel_at_place(alloc, known, path, 1, second)?;
-    let d = colour_at_place(alloc, known, path, 2, third)?;
-    Ok(Lit::Dead(c, d))
+    let c = at_place(alloc, path, 1, channel_in(known, first))?;
+    let d = at_place(alloc, path, 2, colour_in(known, second))?;
+    Ok((c, d))
 }
 
-#[tactic(auto, unfolding(crate::specs::Reading::channel_literal))]
-fn idle_literal(
+/// A queue and a colour, from a place of the list at `path` on.
+#[tactic(auto, unfolding(crate::specs::Reading::queue_and_colour))]
+pub fn queue_and_colour(
     alloc: Global,
     known: &Known<'_>,
     path: &str,
+    place: usize,
+    first: &Value,
     second: &Value,
-    third: &Value,
-) -> Result<Lit, PathFault>
-    ensures { Gives (λ l. l) result
-        (spec.channel_literal lits.Idle (known_of known.now) path.now (view second.now) (view third.now)) }
+) -> Result<(u32, u8), PathFault>
+    requires { place < 4 }
+    ensures { Gives (λ pair. pair) result
+        (spec.queue_and_colour (known_of known.now) path.now place (view first.now) (view second.now)) }
 {
-    let c = channel_at_place(alloc, known, path, 1, second)?;
-    let d = colour_at_place(alloc, known, path, 2, third)?;
-    Ok(Lit::Idle(c, d))
-}
-
-#[tactic(auto, unfolding(crate::specs::Reading::queue_literal))]
-fn has_literal(
-    alloc: Global,
-    known: &Known<'_>,
-    path: &str,
-    second: &Value,
-    third: &Value,
-) -> Result<Lit, PathFault>
-    ensures { Gives (λ l. l) result
-        (spec.queue_literal lits.Has (known_of known.now) path.now (view second.now) (view third.now)) }
-{
-    let q = queue_at_place(alloc, known, path, 1, second)?;
-    let d = colour_at_place(alloc, known, path, 2, third)?;
-    Ok(Lit::Has(q, d))
-}
-
-#[tactic(auto, unfolding(crate::specs::Reading::queue_literal))]
-fn lacks_literal(
-    alloc: Global,
-    known: &Known<'_>,
-    path: &str,
-    second: &Value,
-    third: &Value,
-) -> Result<Lit, PathFault>
-    ensures { Gives (λ l. l) result
-        (spec.queue_literal lits.Lacks (known_of known.now) path.now (view second.now) (view third.now)) }
-{
-    let q = queue_at_place(alloc, known, path, 1, second)?;
-    let d = colour_at_place(alloc, known, path, 2, third)?;
-    Ok(Lit::Lacks(q, d))
+    let q = at_place(alloc, path, place, queue_in(known, first))?;
+    let d = at_place(alloc, path, place + 1, colour_in(known, second))?;
+    Ok((q, d))
 }
 
 /// A literal of three items: a word, a channel or a queue, and a colour.
@@ -242,10 +117,22 @@ fn long_literal(
         (spec.long_literal (known_of known.now) path.now (view first.now) (view second.now) (view third.now)) }
 {
     match text_at(alloc, path, first)? {
-        "Dead" => dead_literal(alloc, known, path, second, third),
-        "Idle" => idle_literal(alloc, known, path, second, third),
-        "Has" => has_literal(alloc, known, path, second, third),
-        "Lacks" => lacks_literal(alloc, known, path, second, third),
+        "Dead" => {
+            let (c, d) = channel_and_colour(alloc, known, path, second, third)?;
+            Ok(Lit::Dead(c, d))
+        }
+        "Idle" => {
+            let (c, d) = channel_and_colour(alloc, known, path, second, third)?;
+            Ok(Lit::Idle(c, d))
+        }
+        "Has" => {
+            let (q, d) = queue_and_colour(alloc, known, path, 1, second, third)?;
+            Ok(Lit::Has(q, d))
+        }
+        "Lacks" => {
+            let (q, d) = queue_and_colour(alloc, known, path, 1, second, third)?;
+            Ok(Lit::Lacks(q, d))
+        }
         _ => Err(PathFault::Broken(Text::from_bytes(alloc, path.as_bytes())?)),
     }
 }

@@ -8,7 +8,7 @@ ghost use Rattle.xm_json.specs.Members as members;
 ghost use Rattle.xm_json.specs.Path.{member_of, place_of};
 ghost use Rattle.xm_model.specs.Steps.{each};
 ghost use Rattle.xm_proof.specs.Argument.{step_of};
-ghost use Rattle.xm_proof_reader.specs.Inner.Views.{known_of};
+ghost use Rattle.xm_proof_reader.specs.Views.{known_of};
 ghost use Rattle.xm_proof_reader.specs.Reading as spec;
 
 use crate::items::item_at;

@@ -1,9 +1,10 @@
 //! Numbers that are written as decimal texts.
 
-ghost use Rattle.std.specs.Prelude.{◌≡◌, ◌&&◌, IfOk, IfSome, Some, None, if◌then◌else◌};
+ghost use Rattle.std.specs.Prelude.{◌≡◌, ◌&&◌, IfOk, IfSome, Some, None, if◌then◌else◌, option_and_then};
 ghost use Rattle.std.specs.Fmt.{signed_decimal};
 ghost use Rattle.std.specs.Str.{bytes_eq};
 ghost use Rattle.xm_proof.specs.Sums.{fits128};
+ghost use Rattle.serde_json.specs.Find.{as_str};
 ghost use Rattle.serde_json.specs.View.{view};
 ghost use Rattle.xm_json.specs.Gives.{Gives};
 ghost use Rattle.xm_json.specs.Path.{place_of};
@@ -47,21 +48,13 @@ fn number_of(text: &str) -> Option<i128>
     number_written(&number, text)
 }
 
-/// The number at a place of the list at `path`.
-pub fn number_at_place(
-    alloc: Global,
-    path: &str,
-    place: usize,
-    value: &Value,
-) -> Result<i128, PathFault>
-    ensures { Gives (λ n. n) result (reading.number_at (place_of path.now place) (view value.now)) }
+/// The number that the value is.
+pub fn number_in(value: &Value) -> Option<i128>
+    ensures { result ≡ option_and_then spec.number_of (as_str (view value.now)) }
 {
     match value.as_str() {
-        Some(text) => match number_of(text) {
-            Some(number) => Ok(number),
-            None => Err(PathFault::Broken(place_text(alloc, path, place)?)),
-        },
-        None => Err(PathFault::Broken(place_text(alloc, path, place)?)),
+        Some(text) => number_of(text),
+        None => None,
     }
 }
 

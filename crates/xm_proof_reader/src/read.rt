@@ -1,13 +1,12 @@
 //! Reading a proof: its lemmas, and then its goals.
 
-ghost use Rattle.std.specs.Prelude.{◌≡◌, All, IfOk, option_map, true};
+ghost use Rattle.std.specs.Prelude.{IfOk, option_map};
 ghost use Rattle.serde_json.specs.View.{view};
 ghost use Rattle.xm_json.specs.Gives as paths;
-ghost use Rattle.xm_model.specs.Naming.{naming_of};
 ghost use Rattle.xm_proof.specs.Argument.{argument_of};
+ghost use Rattle.xm_proof.specs.Form.{IsFormed};
 ghost use Rattle.xm_proof_reader.specs.Gives.{Gives};
-ghost use Rattle.xm_proof_reader.specs.Inner.Views as views;
-ghost use Rattle.xm_proof_reader.specs.Known.{known_of};
+ghost use Rattle.xm_proof_reader.specs.Views.{known_of};
 ghost use Rattle.xm_proof_reader.specs.Reading as spec;
 
 use crate::fault::ProofFault;
@@ -16,16 +15,14 @@ use crate::known::Known;
 use crate::lemmas::lemmas_in;
 use serde_json::Value;
 use std::alloc::Global;
-use xm_design::Design;
-use xm_flow::queue_pairs;
 use xm_json::{PathFault, only};
-use xm_model::{Names, Text};
+use xm_model::Text;
 use xm_proof::Proof;
 
 /// The proof that an object is.
 #[tactic(auto, unfolding(crate::specs::Reading::object_in))]
 fn object_in(alloc: Global, known: &Known<'_>, proof: &Value) -> Result<Proof, PathFault>
-    ensures { paths.Gives argument_of result (spec.object_in (views.known_of known.now) (view proof.now)) }
+    ensures { paths.Gives argument_of result (spec.object_in (known_of known.now) (view proof.now)) }
 {
     let lemmas = lemmas_in(alloc, known, proof)?;
     let goals = goals_in(alloc, known, proof)?;
@@ -37,7 +34,7 @@ fn object_in(alloc: Global, known: &Known<'_>, proof: &Value) -> Result<Proof, P
 #[tactic(auto, unfolding(crate::specs::Reading::proof_in))]
 fn proof_in(alloc: Global, known: &Known<'_>, value: Option<&Value>) -> Result<Proof, PathFault>
     ensures { paths.Gives argument_of result
-        (spec.proof_in (views.known_of known.now) (option_map (λ v. view v.now) value.entry)) }
+        (spec.proof_in (known_of known.now) (option_map (λ v. view v.now) value.entry)) }
 {
     match value {
         Some(proof) if proof.is_object() => object_in(alloc, known, proof),
@@ -45,24 +42,16 @@ fn proof_in(alloc: Global, known: &Known<'_>, value: Option<&Value>) -> Result<P
     }
 }
 
-/// The proof that the value is, or the path of its first break: of its lemmas, and then of its goals. The names are
-/// those of the design.
+/// The proof that the value is, or the path of its first break: of its lemmas, and then of its goals.
 pub fn read_proof(
     alloc: Global,
-    design: &Design,
-    names: &Names,
+    known: &Known<'_>,
     value: Option<&Value>,
 ) -> Result<Proof, ProofFault>
     ensures exact { Gives argument_of result
-        (spec.proof_in (known_of design.now (naming_of names.now)) (option_map (λ v. view v.now) value.entry)) }
-    ensures trees { IfOk result (λ p. All (λ g. spec.are_trees 1 g.steps ≡ true) (argument_of p).goals) }
+        (spec.proof_in (known_of known.now) (option_map (λ v. view v.now) value.entry)) }
+    ensures formed { IfOk result (λ p. IsFormed (argument_of p)) }
 {
-    let pairs = queue_pairs(alloc, design)?;
-    let known = Known {
-        design,
-        names,
-        pairs,
-    };
-    let proof = proof_in(alloc, &known, value)?;
+    let proof = proof_in(alloc, known, value)?;
     Ok(proof)
 }

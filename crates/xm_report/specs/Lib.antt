@@ -1,3 +1,4 @@
 pub mod Check
 pub mod Invariants
 pub mod Lines
+pub mod Verdict

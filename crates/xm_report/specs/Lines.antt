@@ -88,6 +88,16 @@ tape_line (tape.tape_limit count) = cycles_line count
 tape_line (tape.row_length row bytes) = row_line row bytes
 tape_line (tape.bad_mark row oracle) = mark_line row oracle
 
+-- ---- proofs
+
+-- the channel is the first that is not granted a persistent initiator
+abbrev pub persistency_line : Naming → ℕ → List ℕ
+persistency_line names c = channel_fault names (codes "not persistent") c
+
+-- the proof's form is first broken at this path
+abbrev pub form_line : List ℕ → List ℕ
+form_line path = path_line (codes "proof: form") path
+
 -- ---- invariants
 
 -- there are so many pairs of a channel and a colour

@@ -253,3 +253,17 @@ pub fn overflow_line(alloc: Global, column: u32) -> Result<Text, OutOfMemory>
 {
     number_line(alloc, b"overflow column ", u64::from(column))
 }
+
+/// The line of a channel that is not granted a persistent initiator.
+pub fn persistency_line(alloc: Global, names: &Names, c: u32) -> Result<Text, OutOfMemory>
+    ensures { IfOk result (λ text. text.items ≡ spec.persistency_line (naming_of names.now) c) }
+{
+    channel_line(alloc, names, b"not persistent", c)
+}
+
+/// The line of the first break of a proof's form, by its path.
+pub fn form_line(alloc: Global, path: &Text) -> Result<Text, OutOfMemory>
+    ensures { IfOk result (λ text. text.items ≡ spec.form_line path.now.items) }
+{
+    fault_at(alloc, b"proof: form", path)
+}

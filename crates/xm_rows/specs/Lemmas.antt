@@ -3,5 +3,6 @@ pub mod Entries
 pub mod Factors
 pub mod Integers
 pub mod Meeting
+pub mod Noting
 pub mod Sums
 pub mod Unique

@@ -1,3 +1,4 @@
+pub mod Columns
 pub mod Combination
 pub mod Divisor
 pub mod Inner

@@ -1,7 +1,8 @@
-//! Exact sparse rows over 128 bits: columns cancelled, primitive rows, and left sides at a point.
+//! Exact sparse rows over 128 bits: columns cancelled, primitive rows, left sides at a point, and the rows of a column.
 #![tactic(auto)]
 
 mod arithmetic;
+mod columns;
 mod combine;
 mod divisor;
 mod evaluate;
@@ -10,6 +11,7 @@ mod reduce;
 mod row;
 
 pub use arithmetic::{product, sum};
+pub use columns::{empty_lists, note, spread};
 pub use combine::{CancelFault, cancel};
 pub use divisor::gcd;
 pub use evaluate::dot;

@@ -7,4 +7,5 @@ mod inputs;
 mod lines;
 mod proofs;
 mod texts;
+mod verdicts;
 mod words;

@@ -31,7 +31,8 @@ use Rattle.xm_writer.proofs.AgainMaps.{members_from}
 use Rattle.xm_writer.proofs.AgainMarks.{rising_within}
 use Rattle.xm_writer.proofs.AgainNames.{is_known}
 use Rattle.xm_writer.proofs.AgainNumbers.{Fits, channels_again, components_again, primitives_read, prims_again}
-use Rattle.xm_writer.proofs.AgainParts.{Suits, list_of-items_of, part_again, texts_again}
+use Rattle.xm_writer.proofs.AgainParts.{Suits, part_again, texts_again}
+use Rattle.xm_writer.specs.Lemmas.Values.{list_of-items_of}
 use Rattle.xm_writer.proofs.AgainTests.{AreKnown, coloured_again, known_names, limited_again, named_again}
 
 -- ---- the members of the root

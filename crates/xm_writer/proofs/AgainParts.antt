@@ -2,8 +2,7 @@
 use Rattle.std.proofs.Common.{◌≡◌, ℕ, ◌≤◌, Bool, true, false, List, [], ◌∷◌, map, Ok, refl, ap, ◌∙◌, codes}
 use Rattle.std.specs.Prelude.{nat_le}
 use Rattle.std.proofs.lemmas.Bool.{le-leb}
-use Rattle.serde_json.specs.Data.{Data, object, string, no_members, member}
-use Rattle.serde_json.specs.View.{items_of}
+use Rattle.serde_json.specs.Data.{object, string, no_members, member}
 use Rattle.xm_model.specs.TextLines.{name_at}
 use Rattle.xm_model.specs.Component.{Component, Fork, Function, Join, Merge, Queue, Sink, Source, Switch}
 use Rattle.xm_model.specs.Naming.{Naming}
@@ -17,16 +16,13 @@ use Rattle.xm_shape.specs.Names.{Name}
 use Rattle.xm_shape.specs.Shape.{fork_in, function_in, map_entries_in, initial_member, join_in, merge_in, kind_text_in, primitive_at, primitive_of, pass_member, queue_in, sink_in, sink_mode_member, source_in, source_mode_member, switch_in, table_at, table_member}
 use Rattle.xm_shape.specs.Versions.{fair_version, initial_version}
 use Rattle.xm_json.specs.Members.{number_member, only, text_member, texts_member}
-use Rattle.xm_json.specs.Values.{list_of, text_at, texts_at, texts_in}
+use Rattle.xm_json.specs.Values.{text_at, texts_at, texts_in}
 use Rattle.xm_netlist.specs.Numbered.{marked_from}
 use Rattle.xm_writer.specs.Writing.{component_data, has_packets, is_fair, member_if, names_data, object_if}
+use Rattle.xm_writer.specs.Lemmas.Values.{list_of-items_of}
 use Rattle.xm_writer.proofs.AgainAllow.{names_data-texts, texts_data}
 use Rattle.xm_writer.proofs.AgainLists.{reads}
 use Rattle.xm_writer.proofs.AgainMaps.{changes-table, members_from, table_of}
-
-pub list_of-items_of : (ds : List Data) → list_of (items_of ds) ≡ ds
-list_of-items_of [] = refl
-list_of-items_of (d ∷ ds) = ap (λ (l : List Data). d ∷ l) (list_of-items_of ds)
 
 -- the names of colours, or of channels, with these numbers
 abbrev pub named_by : List Name → List ℕ → List Name

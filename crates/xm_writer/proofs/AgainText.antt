@@ -30,7 +30,7 @@ use Rattle.xm_netlist.specs.Lemmas.Json.{json_known}
 use Rattle.xm_netlist.specs.Numbered.{marked_from}
 use Rattle.xm_netlist.specs.Reading.{document_in, document_of}
 use Rattle.xm_netlist.specs.Valid.{AreNames, IsPart, IsValid}
-use Rattle.xm_writer.specs.Inner.MemberSteps.{HasTexts}
+use Rattle.xm_writer.specs.Texts.{HasTexts}
 use Rattle.xm_writer.specs.Writing.{component_data, data_of, initial_data, member_if, names_data, object_if, prims_data, side_data, sink_mode_data, source_mode_data, table_data, version_of}
 use Rattle.xm_writer.proofs.Again.{data_is}
 use Rattle.xm_writer.proofs.AgainAllow.{entry_table, names_data-texts, texts_data}

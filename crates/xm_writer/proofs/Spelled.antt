@@ -1,14 +1,13 @@
 -- What the writer's loops have put in so far.
-use Rattle.std.proofs.Common.{◌≡◌, ℕ, zero, suc, ◌+◌, ◌<◌, ◌≤◌, Bool, true, false, List, [], ◌∷◌, ◌++◌, length, get_or, drop, map, Some, String, Global, refl, sym, ap, ◌∙◌, add-one, append_assoc, append-nil, rules, string_bytes}
+use Rattle.std.proofs.Common.{◌≡◌, ℕ, zero, suc, ◌+◌, ◌<◌, ◌≤◌, Bool, true, false, List, [], ◌∷◌, ◌++◌, length, get_or, drop, map, Some, String, Global, refl, sym, ap, ◌∙◌, add-one, append_assoc, append-nil}
 use Rattle.std.specs.Str.{IsUtf8}
 use Rattle.std.proofs.lemmas.Bool.{eq-eqb, ne_eqb}
 use Rattle.std.proofs.lemmas.List.{drop_all, map_push}
 use Rattle.std.proofs.lemmas.List.Elements.{All-head, All-tail}
 use Rattle.std.proofs.lemmas.Str.{IsUtf8-nil}
-use Rattle.serde_json.specs.Data.{Data, Members, object, put, string}
+use Rattle.serde_json.specs.Data.{Data, Members, object, put}
 use Rattle.serde_json.specs.View.{members_view, view}
-use Rattle.serde_json.specs.declared.value.Value.{Value, the_lemmas}
-use Rattle.serde_json.specs.declared.value.Value.{String as text_value}
+use Rattle.serde_json.specs.declared.value.Value.{Value}
 use Rattle.xm_model.specs.TextLines.{name_at}
 use Rattle.xm_model.specs.Component.{component_of}
 use Rattle.xm_model.specs.Naming.{Naming, allowed_of}
@@ -17,16 +16,13 @@ use Rattle.xm_model.specs.declared.primitive.Primitive.{Primitive}
 use Rattle.xm_shape.specs.Names.{Name}
 use Rattle.xm_json.specs.Lemmas.Lists.{cut_at}
 use Rattle.xm_netlist.specs.Numbered.{marked_from}
-use Rattle.xm_writer.specs.Inner.MemberSteps.{AreTexts}
+use Rattle.xm_writer.specs.Texts.{AreTexts}
 use Rattle.xm_writer.specs.Writing.{changes, component_data, entries_data, name_data, names_data, object_if, prims_data}
 
 pub name_is_text : (names : List Name) → AreTexts names → (i : ℕ) → IsUtf8 (name_at names i)
 name_is_text [] all i = IsUtf8-nil
 name_is_text (n ∷ ns) all zero = All-head IsUtf8 n ns all
 name_is_text (n ∷ ns) all (suc i) = name_is_text ns (All-tail IsUtf8 n ns all) i
-
-pub view-String : (s : String Global) → view (text_value s) ≡ string (string_bytes s)
-view-String s = search (rules, the_lemmas)
 
 -- ---- the marks from i on
 

@@ -1,2 +1,4 @@
 pub mod Inner
+pub mod Lemmas
+pub mod Texts
 pub mod Writing

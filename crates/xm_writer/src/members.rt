@@ -6,7 +6,8 @@ ghost use Rattle.serde_json.specs.View.{members_view, view};
 ghost use Rattle.xm_model.specs.TextLines.{name_at};
 ghost use Rattle.xm_model.specs.Naming.{texts_of};
 ghost use Rattle.xm_netlist.specs.Numbered.{marked_from};
-ghost use Rattle.xm_writer.specs.Inner.MemberSteps.{AreTexts, put_if};
+ghost use Rattle.xm_writer.specs.Inner.MemberSteps.{put_if};
+ghost use Rattle.xm_writer.specs.Texts.{AreTexts};
 ghost use Rattle.xm_writer.specs.Writing as spec;
 
 use serde_json::{Map, Value};
@@ -22,6 +23,14 @@ pub fn name_text(alloc: Global, names: &[Text], i: usize) -> Result<String, OutO
         Ok(text) => Ok(String::from_str(alloc, text)?),
         Err(_) => unreachable!(),
     }
+}
+
+/// The name with this number, as a value.
+pub fn name_value(alloc: Global, names: &[Text], i: usize) -> Result<Value, OutOfMemory>
+    requires { AreTexts (texts_of names.now) }
+    ensures { IfOk result (λ v. view v ≡ spec.name_data (texts_of names.now) i) }
+{
+    Ok(Value::String(name_text(alloc, names, i)?))
 }
 
 /// The names with these numbers.

@@ -7,7 +7,8 @@ ghost use Rattle.xm_model.specs.Component.{component_of};
 ghost use Rattle.xm_model.specs.TextLines.{name_at};
 ghost use Rattle.xm_model.specs.Naming.{naming_of};
 ghost use Rattle.xm_netlist.specs.Numbered.{marked_from};
-ghost use Rattle.xm_writer.specs.Inner.MemberSteps.{HasTexts, in_a_b_put, a_b_out_put, ports_put, put_if, rest_put, in_out_put};
+ghost use Rattle.xm_writer.specs.Inner.MemberSteps.{in_a_b_put, a_b_out_put, ports_put, put_if, rest_put, in_out_put};
+ghost use Rattle.xm_writer.specs.Texts.{HasTexts};
 ghost use Rattle.xm_writer.specs.Inner.MemberSteps as spelling;
 ghost use Rattle.xm_writer.specs.Writing as spec;
 

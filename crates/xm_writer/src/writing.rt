@@ -10,7 +10,7 @@ ghost use Rattle.xm_model.specs.Naming.{allowed_of, naming_of, texts_of};
 ghost use Rattle.xm_netlist.specs.Documented.{doc_of};
 ghost use Rattle.xm_netlist.specs.Reading.{document_in};
 ghost use Rattle.xm_netlist.specs.Valid.{IsValid};
-ghost use Rattle.xm_writer.specs.Inner.MemberSteps.{AreTexts, HasTexts};
+ghost use Rattle.xm_writer.specs.Texts.{AreTexts, HasTexts};
 ghost use Rattle.xm_writer.specs.Writing as spec;
 
 use crate::members::{name_text, names_value, object_if, put, put_at_name, put_some};

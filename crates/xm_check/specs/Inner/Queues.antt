@@ -1,8 +1,8 @@
 -- Queues of a design, and rows of items as they are made.
-use Rattle.std.specs.Prelude.{◌≡◌, ℕ, ◌<◌, List, All, Result, ℤ}
+use Rattle.std.specs.Prelude.{ℕ, ◌<◌, List, All, Result, ℤ}
 use Rattle.xm_check.specs.declared.items.Made.{Made}
 use Rattle.xm_design.specs.Designed.{Designed}
-use Rattle.xm_model.specs.Component.{Component, Queue}
+use Rattle.xm_model.specs.Component.{Queue}
 use Rattle.xm_model.specs.Net.{HasPrim}
 use Rattle.xm_model.specs.Steps.{◌>>=◌, check, demand}
 use Rattle.xm_proof.specs.Sums.{Sums, add_row, is_natural}

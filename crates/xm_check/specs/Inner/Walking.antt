@@ -1,5 +1,5 @@
 -- The paths that a walk over the steps of a goal has left.
-use Rattle.std.specs.Prelude.{◌≡◌, ℕ, ◌≤◌, ◌<◌, Result, Ok, Err, List, [], ◌∷◌, ◌++◌, length, reverse, take}
+use Rattle.std.specs.Prelude.{ℕ, ◌≤◌, Result, Ok, List, [], ◌∷◌, ◌++◌, length, reverse, take}
 use Rattle.xm_check.specs.Break.{step_test}
 use Rattle.xm_check.specs.declared.trees.Left.{Left}
 use Rattle.xm_check.specs.declared.trees.Walk.{Walk}

@@ -23,13 +23,14 @@ use Rattle.xm_commands.specs.declared.prepared.Prepared.{Prepared}
 use Rattle.xm_commands.specs.declared.refusal.Refusal.{Refusal}
 use Rattle.xm_commands.specs.declared.refusal.Refusal.TheVariants as refusal
 
--- the bytes are a document, this is its design, with its names and its tape
+-- the bytes are a document, this is its design, with its names, its tape and its proof
 pub record IsPrepared (bytes : List ℕ) (it : Prepared) : Type 0 where
   pub doc : Doc
   pub read : document_in bytes ≡ Ok doc
   pub design : IsDesignOf doc it.design
   pub names : naming_of it.names ≡ doc.names
   pub tape : option_map view it.tape ≡ doc.tape
+  pub proof : option_map view it.proof ≡ doc.proof
   pub named : IsNamed doc.net doc.names
 
 -- the bytes are this document, which can be written again
@@ -42,6 +43,7 @@ abbrev pub IsRefusedAs : List ℕ → Command → Refusal → Type 0
 IsRefusedAs bytes it (refusal.Document line) = Refuses bytes it 3 line.items
 IsRefusedAs bytes it (refusal.Net line) = Refuses bytes it 4 line.items
 IsRefusedAs bytes it (refusal.Tape line) = Refuses bytes it 5 line.items
+IsRefusedAs bytes it (refusal.Proof line) = Refuses bytes it 5 line.items
 IsRefusedAs bytes it (refusal.Overflow line) = Refuses bytes it 8 line.items
 IsRefusedAs bytes it refusal.Memory = Unit {0}
 IsRefusedAs bytes it _ = ⊥

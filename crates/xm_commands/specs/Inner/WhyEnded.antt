@@ -3,6 +3,7 @@ use Rattle.std.specs.Prelude.{◌≡◌, ◌⊎◌, ℕ, List, Option, Some, Non
 use Rattle.xm_commands.specs.Refusal.{Refuses}
 use Rattle.xm_commands.specs.Status.{Gave, Prints, PrintsFront, PrintsSome, PrintsWhole, most_bytes}
 use Rattle.xm_commands.specs.declared.command.Command.{Command}
+use Rattle.xm_commands.specs.declared.command.Outcome.{Outcome}
 use Rattle.xm_commands.specs.declared.refusal.Refusal.{Refusal}
 use Rattle.xm_commands.specs.declared.refusal.Refusal.TheVariants as refusal
 use Rattle.xm_io.specs.Bytes.{TakesAtMost, TakesMoreThan}
@@ -49,6 +50,7 @@ abbrev pub IsCause : {K : Type 0} → List ℕ → Command → Change K → Refu
 IsCause bytes it sink (refusal.Document line) = Refuses bytes it 3 line.items × IsUntouched sink
 IsCause bytes it sink (refusal.Net line) = Refuses bytes it 4 line.items × IsUntouched sink
 IsCause bytes it sink (refusal.Tape line) = Refuses bytes it 5 line.items × IsUntouched sink
+IsCause bytes it sink (refusal.Proof line) = Refuses bytes it 5 line.items × IsUntouched sink
 IsCause bytes it sink (refusal.Overflow line) = Refuses bytes it 8 line.items × IsUntouched sink
 IsCause bytes it sink refusal.Write =
     Rose sink.faults_before sink.faults_after × PrintsSome bytes it sink.bytes_before sink.bytes_after
@@ -57,8 +59,9 @@ IsCause bytes it sink refusal.Memory =
 IsCause bytes it sink _ = ⊥
 
 -- how the command ended
-abbrev pub HasAnswered : {T K : Type 0} → List ℕ → Command → Change K → Result T Refusal → Type 0
-HasAnswered bytes it sink (Ok done) = PrintsWhole bytes it sink.bytes_before sink.bytes_after × IsUnharmed sink
+abbrev pub HasAnswered : {K : Type 0} → List ℕ → Command → Change K → Result Outcome Refusal → Type 0
+HasAnswered bytes it sink (Ok turned) =
+    PrintsWhole bytes it turned sink.bytes_before sink.bytes_after × IsUnharmed sink
 HasAnswered bytes it sink (Err refusal) = IsCause bytes it sink refusal
 
 -- ---- for a source, and the command that the words call, if any
@@ -78,6 +81,7 @@ IsWhy it source sink refusal.Words = ⊥
 IsWhy it source sink (refusal.Document line) = IsInputRefused it source sink 3 line.items
 IsWhy it source sink (refusal.Net line) = IsInputRefused it source sink 4 line.items
 IsWhy it source sink (refusal.Tape line) = IsInputRefused it source sink 5 line.items
+IsWhy it source sink (refusal.Proof line) = IsInputRefused it source sink 5 line.items
 IsWhy it source sink (refusal.Overflow line) = IsInputRefused it source sink 8 line.items
 IsWhy it source sink refusal.Read =
     Rose source.faults_before source.faults_after × TakesAtMost most_bytes source.bytes_before source.bytes_after
@@ -103,8 +107,9 @@ IsWhyCalled None source sink refusal =
 IsWhyCalled (Some it) source sink refusal = IsWhy it source sink refusal
 
 -- how the program ended: it printed the output of the command that the words call, or it refused
-abbrev pub HasEnded : {T S K : Type 0} → Option Command → Change S → Change K → Result T Refusal → Type 0
-HasEnded called source sink (Ok done) =
-    IsSomeAnd called (λ it. Prints it source.bytes_before source.bytes_after sink.bytes_before sink.bytes_after)
+abbrev pub HasEnded : {S K : Type 0} → Option Command → Change S → Change K → Result Outcome Refusal → Type 0
+HasEnded called source sink (Ok turned) =
+    IsSomeAnd called
+    (λ it. Prints it turned source.bytes_before source.bytes_after sink.bytes_before sink.bytes_after)
     × IsUnharmed source × IsUnharmed sink
 HasEnded called source sink (Err refusal) = IsWhyCalled called source sink refusal

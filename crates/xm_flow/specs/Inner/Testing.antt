@@ -1,5 +1,5 @@
 -- Inner: sums of flow rows so far, column by column, as the test of a lemma forms them. No public clause cites these.
-use Rattle.std.specs.Prelude.{◌≡◌, ◌≢◌, ◌⊎◌, ℕ, List, cond, nat_eq, slice_index_or, take, ℤ, pos, ◌+ℤ◌, ◌*ℤ◌, All}
+use Rattle.std.specs.Prelude.{◌≡◌, ◌≢◌, ◌⊎◌, ℕ, ◌-◌, List, cond, nat_eq, nat_lt, slice_index_or, take, ℤ, pos, ◌+ℤ◌, ◌*ℤ◌, All}
 use Rattle.xm_flow.specs.ValidLemma.{Lemma, flow_at, weighed, weighed_constant}
 use Rattle.xm_flow.specs.declared.invariant.Part.{Part}
 use Rattle.xm_rows.specs.Row.{Fits128, SparseRow, coefficient}
@@ -62,3 +62,11 @@ pub record AreWeighed (n : ℕ) (flow : List SparseRow) (parts : List Part) (slo
 pub record IsScaled (it : Lemma) : Type 0 where
   pub entries : All (λ e. Fits128 (it.scale *ℤ e.value)) it.row.entries
   pub constant : Fits128 (it.scale *ℤ it.row.constant)
+
+-- what the scale times the row has in a column of flow rows, of which so many are moves
+abbrev pub scaled_at : ℕ → Lemma → ℕ → ℤ
+scaled_at moves it k = cond (nat_lt k moves) (pos 0) (it.scale *ℤ coefficient it.row.entries (k - moves))
+
+-- the sums have the same there
+abbrev pub IsMet : ℕ → ℕ → Lemma → List Slot → ℕ → Type 0
+IsMet n moves it slots k = sum_at n slots k ≡ scaled_at moves it k

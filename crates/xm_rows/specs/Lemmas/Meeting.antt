@@ -6,9 +6,10 @@ use Rattle.std.proofs.lemmas.Nat.Gcd.{same_from_IsGcd}
 use Rattle.std.proofs.Math.IntN.{zero-*ℤ, *ℤ-zero}
 use Rattle.xm_rows.specs.declared.row.Entry.{Entry}
 use Rattle.xm_rows.specs.Row.{SparseRow, coefficient, left_side}
+use Rattle.xm_rows.specs.Combination.{IsCancelled}
 use Rattle.xm_rows.specs.Divisor.{IsPrimitiveOf}
 use Rattle.xm_rows.specs.Points.{KeepsPoints, GivesBackPoints, OnePairOfFactors, PrimitiveKeepsPoints}
-use Rattle.xm_rows.specs.Lemmas.Integers.{distrib, distrib_right, assoc, negated, one_times, one_factor, crossed, times_difference}
+use Rattle.xm_rows.specs.Lemmas.Integers.{distrib, distrib_right, assoc, negated, one_times, one_factor, crossed, times_difference, zero_factor}
 use Rattle.xm_rows.specs.Lemmas.Entries.{own_column, other_column}
 use Rattle.xm_rows.specs.Lemmas.Factors.{gcd_positive}
 
@@ -118,6 +119,15 @@ scaled_constants d u v m a b c e =
 
 pub positive_nonzero : (d : ℕ) → 0 < d → pos d ≢ pos 0
 positive_nonzero d some e = absurd (omega (arith, ints))
+
+-- a combination has an entry only where the row or the pivot has one
+pub cancelled_none : (r s t : SparseRow) (column k : ℕ) → IsCancelled r s column t → coefficient r.entries k ≡ pos 0 → coefficient s.entries k ≡ pos 0 → coefficient t.entries k ≡ pos 0
+cancelled_none r s t column k c none_r none_s =
+    let some = c.combination.positive in
+    let is = c.combination.entries k in
+    let left : c.u *ℤ coefficient r.entries k ≡ pos 0 = ap (λ (z : ℤ). c.u *ℤ z) none_r ∙ *ℤ-zero c.u in
+    let right : c.v *ℤ coefficient s.entries k ≡ pos 0 = ap (λ (z : ℤ). c.v *ℤ z) none_s ∙ *ℤ-zero c.v in
+    zero_factor (pos c.combination.divisor) (coefficient t.entries k) (λ e. absurd (omega (arith, ints))) (is ∙ (let l = left in let r = right in omega (arith, ints)))
 
 pub keeps_points : KeepsPoints
 keeps_points r s t u v m x c on_r on_s =

@@ -14,21 +14,22 @@ use xm_trace::{run_all, trace_text};
 
 /// What a call answers, writes and tells.
 #[derive(Clone, Copy)]
-struct Answer<'a> {
-    status: u8,
-    out: &'a str,
-    err: &'a str,
+pub struct Answer<'a> {
+    pub status: u8,
+    pub out: &'a str,
+    pub err: &'a str,
 }
 
 /// A source that gives pieces of ten bytes and an output that takes pieces of five, of which the second
 /// call may fail.
 #[derive(Clone, Copy)]
-struct Outside {
+pub struct Outside {
     source_fails: bool,
     out_fails: bool,
 }
 
-const SOUND: Outside = Outside {
+/// Neither fails.
+pub const SOUND: Outside = Outside {
     source_fails: false,
     out_fails: false,
 };
@@ -42,9 +43,9 @@ fn failing(alloc: Global, is_failing: bool) -> Result<List<u32>, OutOfMemory> {
     Ok(calls)
 }
 
-fn source_of(alloc: Global, document: &str, is_failing: bool) -> Result<MemSource, OutOfMemory> {
+fn source_of(alloc: Global, document: &[u8], is_failing: bool) -> Result<MemSource, OutOfMemory> {
     let calls = failing(alloc, is_failing)?;
-    let text = Text::from_bytes(alloc, document.as_bytes())?;
+    let text = Text::from_bytes(alloc, document)?;
     Ok(MemSource::new(text, 10, calls))
 }
 
@@ -91,16 +92,22 @@ fn gives_from<S: Source>(
     out_of(alloc, out_fails).is_ok_and(|mut out| gives_into(alloc, words, source, &mut out, answer))
 }
 
-fn answers(alloc: Global, words: &Words, document: &str, outside: Outside, answer: Answer) -> bool {
+fn answers(
+    alloc: Global,
+    words: &Words,
+    document: &[u8],
+    outside: Outside,
+    answer: Answer,
+) -> bool {
     let source = source_of(alloc, document, outside.source_fails);
     source.is_ok_and(|mut source| gives_from(alloc, words, &mut source, outside.out_fails, answer))
 }
 
 /// Whether the words of this line, with the document, have this answer.
-fn is_answered(
+pub fn is_answered(
     alloc: Global,
     line: &str,
-    document: &str,
+    document: &[u8],
     outside: Outside,
     answer: Answer,
 ) -> bool {
@@ -119,7 +126,7 @@ fn is_printed(alloc: Global, line: &str, document: &str, text: &str) -> bool {
         out: text,
         err: "",
     };
-    is_answered(alloc, line, document, SOUND, answer)
+    is_answered(alloc, line, document.as_bytes(), SOUND, answer)
 }
 
 /// Words, a document, and the output. What is printed of the last three runs was made by a program that was
@@ -157,7 +164,7 @@ fn is_told(alloc: Global, line: &str, document: &str, status: u8, told: &str) ->
         out: "",
         err: told,
     };
-    is_answered(alloc, line, document, SOUND, answer)
+    is_answered(alloc, line, document.as_bytes(), SOUND, answer)
 }
 
 #[test]
@@ -166,12 +173,13 @@ fn outputs_are_printed(rt: HostRuntime) {
 }
 
 /// Words, a document, the status, and the line of error.
-const REFUSALS: [(&str, &str, u8, &str); 11] = [
+const REFUSALS: [(&str, &str, u8, &str); 14] = [
     ("", STREAM, 2, "words\n"),
     ("sim", STREAM, 2, "words\n"),
     ("check x", STREAM, 2, "words\n"),
     ("run --", STREAM, 2, "words\n"),
     ("inv x", STREAM, 2, "words\n"),
+    ("verify x", STREAM, 2, "words\n"),
     ("run", CUT, 3, "document: not JSON\n"),
     (
         "check",
@@ -183,6 +191,8 @@ const REFUSALS: [(&str, &str, u8, &str); 11] = [
     ("check", REFUSED_COLOUR, 4, "net: colour c1 req\n"),
     ("run", NO_TAPE, 5, "tape: shape tape\n"),
     ("run", BAD_MARK, 5, "tape: mark 1 0\n"),
+    ("verify", STREAM, 5, "proof: form proof\n"),
+    ("verify", FREE_SINK, 4, "net: not persistent c1\n"),
 ];
 
 fn all_are_refused(alloc: Global) -> bool {
@@ -231,9 +241,7 @@ const FAULTS: [(Outside, Answer); 2] = [
 ];
 
 fn all_faults_are_told(alloc: Global) -> bool {
-    FAULTS
-        .iter()
-        .all(|case| is_answered(alloc, "run", STREAM, case.0, case.1))
+    FAULTS.iter().all(|case| is_answered(alloc, "run", STREAM.as_bytes(), case.0, case.1))
 }
 
 #[test]

@@ -180,3 +180,9 @@ pub const UNSENT: &str = r#"{"version":2,"colours":["x","y"],"net":[
     {"kind":"source","name":"S","out":"c0","colours":["x"]},
     {"kind":"queue","name":"Q","in":"c0","out":"c1","capacity":2,"initial":["y"]},
     {"kind":"sink","name":"K","in":"c1"}]}"#;
+
+/// A fork to two sinks, one of which keeps no readiness, with an empty proof.
+pub const FREE_SINK: &str =
+    r#"{"version":1,"colours":["req"],"net":[{"kind":"source","name":"S","out":"c0","colours":["req"]},
+    {"kind":"fork","name":"F","in":"c0","a":"c1","b":"c2"},{"kind":"sink","name":"K","in":"c1"},
+    {"kind":"sink","name":"L","in":"c2","mode":"free"}],"proof":{"goals":[],"lemmas":[]}}"#;

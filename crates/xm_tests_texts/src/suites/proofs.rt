@@ -6,10 +6,10 @@ use xm_design::Design;
 use xm_model::Names;
 use xm_netlist::read_document;
 use xm_proof::Proof;
-use xm_proof_reader::{ProofFault, read_proof};
+use xm_proof_reader::{Known, ProofFault, read_proof};
 
 /// A fork whose outputs meet again behind two queues. No queue gets the second colour.
-const DIAMOND: &str = r#"{"version":1,"colours":["req","ack"],"net":[
+pub const DIAMOND: &str = r#"{"version":1,"colours":["req","ack"],"net":[
     {"kind":"source","name":"S","out":"c0","colours":["req"]},
     {"kind":"fork","name":"F","in":"c0","a":"c1","b":"c2"},
     {"kind":"queue","name":"Qd","in":"c1","out":"c3","capacity":2},
@@ -18,7 +18,7 @@ const DIAMOND: &str = r#"{"version":1,"colours":["req","ack"],"net":[
     {"kind":"sink","name":"K","in":"c5"}]}"#;
 
 /// A proof that no channel of it jams.
-const WORKED: &str = r#"{"lemmas":[
+pub const WORKED: &str = r#"{"lemmas":[
     {"constant":"0","rows":[[0,"1"],[1,"-1"],[2,"-1"],[3,"1"],[5,"-1"]],"scale":"1","terms":[["Qd","req","1"],["Qt","req","-1"]]}],"goals":[
     {"goal":["Dead","c5","req"],"tree":[{"kids":1,"on":["Dead","c5","req"],"rule":"P0"},
     {"kids":0,"on":["Stuck","c5"],"rule":"S1"}]},
@@ -201,10 +201,20 @@ fn is_answer(answer: &Result<Proof, ProofFault>, expected: &str) -> bool {
     }
 }
 
+fn read(
+    alloc: Global,
+    design: &Design,
+    names: &Names,
+    value: Option<&Value>,
+) -> Result<Proof, ProofFault> {
+    let known = Known::new(alloc, design, names)?;
+    read_proof(alloc, &known, value)
+}
+
 fn answers(alloc: Global, design: &Design, names: &Names, text: &str, expected: &str) -> bool {
     let value = Value::from_slice(alloc, text.as_bytes());
     value.is_ok_and(|value| {
-        is_answer(&read_proof(alloc, design, names, Some(&value)), expected)
+        is_answer(&read(alloc, design, names, Some(&value)), expected)
     })
 }
 
@@ -216,7 +226,7 @@ fn all_answer(alloc: Global, design: &Design, names: &Names) -> bool {
 
 fn is_worked(alloc: Global, design: &Design, names: &Names) -> bool {
     let value = Value::from_slice(alloc, WORKED.as_bytes());
-    value.is_ok_and(|value| { has_worked(&read_proof(alloc, design, names, Some(&value))) })
+    value.is_ok_and(|value| { has_worked(&read(alloc, design, names, Some(&value))) })
 }
 
 fn has_worked(answer: &Result<Proof, ProofFault>) -> bool {
@@ -231,7 +241,7 @@ fn has_worked(answer: &Result<Proof, ProofFault>) -> bool {
 }
 
 fn none_is_told(alloc: Global, design: &Design, names: &Names) -> bool {
-    is_answer(&read_proof(alloc, design, names, None), "proof")
+    is_answer(&read(alloc, design, names, None), "proof")
 }
 
 fn is_worked_of_diamond(alloc: Global) -> bool {

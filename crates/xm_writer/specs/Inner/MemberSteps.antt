@@ -1,22 +1,10 @@
 -- Inner words of the writer, for its private clauses: the members of a document, put in one after another.
 use Rattle.std.specs.Prelude.{ℕ, List, Option, Some, None, codes}
-use Rattle.std.specs.List.{All}
-use Rattle.std.specs.Str.{IsUtf8}
 use Rattle.serde_json.specs.Data.{Data, Members, number, put, unsigned}
 use Rattle.xm_model.specs.Component.{Component, Fork, Function, Join, Merge, Queue, Sink, Source, Switch}
-use Rattle.xm_model.specs.Naming.{Naming}
 use Rattle.xm_shape.specs.Names.{Name}
 use Rattle.xm_netlist.specs.Numbered.{marked_from}
 use Rattle.xm_writer.specs.Writing.{initial_data, name_data, names_data, side_data, sink_mode_data, source_mode_data, table_data}
-
--- each name is text
-abbrev pub AreTexts : List Name → Type 0
-AreTexts names = All IsUtf8 names
-
-pub record HasTexts (names : Naming) : Type 0 where
-  pub prims : AreTexts names.prims
-  pub channels : AreTexts names.channels
-  pub colours : AreTexts names.colours
 
 -- the members, with d at k where there is one
 abbrev pub put_if : List ℕ → Option Data → Members → Members

@@ -1,4 +1,4 @@
-use Rattle.std.proofs.Common.{◌≡◌, ℕ, ◌<◌, ◌-◌, List, Bool, false, map, sym, ◌∙◌, arith}
+use Rattle.std.proofs.Common.{◌<◌, ◌-◌, map, sym, ◌∙◌, arith}
 use Rattle.xm_check.proofs.Marking.{goals_last, last_false, last_true}
 use Rattle.xm_check.proofs.goals.all_marked.Goals as goal
 use Rattle.xm_colours.specs.Family.{colours_at}

@@ -1,10 +1,9 @@
-use Rattle.std.proofs.Common.{◌≡◌, ℕ, ◌<◌, List, subst, sym, ◌∙◌, ap, arith}
+use Rattle.std.proofs.Common.{◌≡◌, ◌<◌, sym, ◌∙◌, ap, arith}
 use Rattle.std.proofs.lemmas.Bool.Decides.{Decides-ltb}
-use Rattle.std.specs.Prelude.{IsTrue}
 use Rattle.xm_check.proofs.Marking.{stands}
 use Rattle.xm_check.proofs.goals.is_pair.Goals as goal
 use Rattle.xm_colours.specs.Family.{colours_at}
-use Rattle.xm_model.specs.Membership.{IsIn, times}
+use Rattle.xm_model.specs.Membership.{times}
 use Rattle.xm_model.specs.Net.{Network}
 
 pub returns-clause-colour : goal.returns-clause-colour

@@ -1,4 +1,4 @@
-use Rattle.std.proofs.Common.{◌≡◌, ℕ, ◌+◌, ◌*◌, ◌++◌, ◌∷◌, [], List, Bool, true, subst, sym}
+use Rattle.std.proofs.Common.{◌+◌, ◌*◌, ◌++◌, ◌∷◌, [], List, Bool, true, subst, sym}
 use Rattle.std.specs.Prelude.{slice_set}
 use Rattle.xm_check.proofs.Marking.{marked_more}
 use Rattle.xm_check.proofs.goals.mark_goal.Goals as goal

@@ -2,7 +2,6 @@ use Rattle.std.proofs.Common.{◌≡◌, [], drop, map, take}
 use Rattle.xm_check.proofs.goals.mark_goals.Given as goal
 use Rattle.xm_check.specs.Break.{goals_test}
 use Rattle.xm_check.specs.Inner.Marked.{AreMarks}
-use Rattle.xm_lits.specs.declared.literal.Lit.{Lit}
 use Rattle.xm_proof.specs.declared.proof.Goal.{Goal}
 
 abbrev pub invariant-loop-k : goal.invariant-loop-k

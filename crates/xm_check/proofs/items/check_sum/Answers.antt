@@ -1,5 +1,5 @@
-use Rattle.std.proofs.Common.{◌≡◌, List, map, length, refl, ◌∙◌}
-use Rattle.xm_check.specs.Break.{item_test, items_test}
+use Rattle.std.proofs.Common.{map, length, refl, ◌∙◌}
+use Rattle.xm_check.specs.Break.{items_test}
 use Rattle.xm_check.proofs.Summing.{item_keeps, items_on}
 use Rattle.xm_flow.specs.ValidLemma.{lemma_of}
 use Rattle.xm_proof.specs.Sums.{no_sums}

@@ -1,4 +1,4 @@
-use Rattle.std.proofs.Common.{◌≡◌, Option, Some, List, length, refl, map, slice_get, ap, ◌∙◌}
+use Rattle.std.proofs.Common.{◌≡◌, Option, Some, length, refl, map, slice_get, ap, ◌∙◌}
 use Rattle.std.proofs.lemmas.Option.{slice_get-map, slice_get_read}
 use Rattle.std.specs.Prelude.{option_map}
 use Rattle.xm_model.specs.Steps.{demand}

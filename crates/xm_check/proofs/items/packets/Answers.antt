@@ -1,10 +1,9 @@
-use Rattle.std.proofs.Common.{◌≡◌, ◌++◌, ◌∷◌, [], List, ℕ, ap, sym, ◌∙◌, subst, SFits, rules, arith, ◌<◌, ◌≤◌}
+use Rattle.std.proofs.Common.{◌≡◌, sym, ◌∙◌, SFits, rules, arith}
 use Rattle.std.specs.Int.{w128}
 use Rattle.std.proofs.lemmas.Int.{to_z-of_z}
 use Rattle.xm_colours.specs.Family.{colours_at}
 use Rattle.xm_check.proofs.Packing.{colours_below, filled, grown, no_colours, over_from}
-use Rattle.xm_model.specs.Membership.{IsIn}
-use Rattle.xm_proof.specs.Tests.{entries_where, of_queue, queue_columns}
+use Rattle.xm_proof.specs.Tests.{entries_where, queue_columns}
 use Rattle.xm_check.proofs.items.packets.Goals as goal
 
 pub loop-d-init : goal.loop-d-init

@@ -1,4 +1,4 @@
-use Rattle.std.proofs.Common.{◌≡◌, Some, slice_get, ap, sym, ◌∙◌}
+use Rattle.std.proofs.Common.{Some, slice_get, ap, sym, ◌∙◌}
 use Rattle.xm_model.specs.Component.{component_of}
 use Rattle.xm_model.specs.Net.{Network}
 use Rattle.xm_check.proofs.items.queue.Goals as goal

@@ -1,4 +1,4 @@
-use Rattle.std.proofs.Common.{◌≡◌, ℕ, ◌+◌, Option, Some, List, ◌∷◌, drop, get_or, map, slice_get, ap, sym, ◌∙◌, arith}
+use Rattle.std.proofs.Common.{sym, ◌∙◌}
 use Rattle.xm_check.proofs.Adding.{found_at}
 use Rattle.xm_check.proofs.steps.place_of.Goals as goal
 

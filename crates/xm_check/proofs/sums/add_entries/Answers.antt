@@ -1,4 +1,4 @@
-use Rattle.std.proofs.Common.{◌≡◌, ◌+◌, Option, Some, None, List, cond, Bool, drop, get_or, pos, ℤ, ap, ◌∙◌, arith, SFits, rules}
+use Rattle.std.proofs.Common.{◌+◌, Option, Some, None, List, cond, Bool, drop, get_or, pos, ℤ, ap, ◌∙◌, SFits, rules}
 use Rattle.std.specs.Int.{w128}
 use Rattle.std.proofs.lemmas.Int.{to_z-of_z}
 use Rattle.xm_check.proofs.Adding.{first_of}

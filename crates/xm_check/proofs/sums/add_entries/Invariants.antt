@@ -1,4 +1,4 @@
-use Rattle.std.proofs.Common.{◌≡◌, Some, drop, length}
+use Rattle.std.proofs.Common.{◌≡◌, Some, drop}
 use Rattle.xm_proof.specs.Sums as spec
 use Rattle.xm_check.proofs.sums.add_entries.Given as goal
 

@@ -1,7 +1,7 @@
-use Rattle.std.proofs.Common.{◌≡◌, ◌++◌, ℕ, List, ◌∷◌, Result, Ok, reverse, length, map, sym, ap, ◌∙◌, subst}
+use Rattle.std.proofs.Common.{◌≡◌, ◌++◌, ℕ, List, Result, Ok, reverse, length, map, sym, ap, ◌∙◌, subst}
 use Rattle.xm_check.specs.Break.{step_test}
 use Rattle.xm_check.proofs.Going.{left_at, left_nested, left_paths}
-use Rattle.xm_check.specs.Inner.Walking.{AreNested, next_test, paths_of}
+use Rattle.xm_check.specs.Inner.Walking.{AreNested, paths_of}
 use Rattle.xm_check.specs.declared.trees.Left.{Left}
 use Rattle.xm_lits.specs.declared.literal.Lit.{Lit}
 use Rattle.xm_lits.specs.Inference.{alternatives_of}

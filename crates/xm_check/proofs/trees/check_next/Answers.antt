@@ -1,7 +1,7 @@
-use Rattle.std.proofs.Common.{◌≡◌, ◌++◌, ◌-◌, ◌<◌, ℕ, List, ◌∷◌, take, reverse, length, map, sym, ap, ◌∙◌, subst, arith}
+use Rattle.std.proofs.Common.{◌≡◌, ◌++◌, ◌-◌, List, take, reverse, map, sym, ap, ◌∙◌, subst, arith}
 use Rattle.xm_check.proofs.Going.{popped}
 use Rattle.xm_check.specs.Inner.Gives.{Gives}
-use Rattle.xm_check.specs.Inner.Walking.{AreNested, next_test, paths_of}
+use Rattle.xm_check.specs.Inner.Walking.{next_test, paths_of}
 use Rattle.xm_check.specs.declared.trees.Walk.{Walk}
 use Rattle.xm_lits.specs.declared.literal.Lit.{Lit}
 use Rattle.xm_flow.specs.ValidLemma as lemmas

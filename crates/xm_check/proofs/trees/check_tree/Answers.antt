@@ -1,4 +1,4 @@
-use Rattle.std.proofs.Common.{◌≡◌, ℕ, suc, ◌+◌, [], ◌∷◌, List, drop, get_or, reverse, length, map, sym, ap, ◌∙◌, add-one, drop-cons}
+use Rattle.std.proofs.Common.{ℕ, suc, ◌∷◌, List, drop, reverse, map, sym, ap, ◌∙◌, add-one, drop-cons}
 use Rattle.xm_check.specs.Break.{steps_test}
 use Rattle.xm_check.proofs.Going.{goes_on}
 use Rattle.xm_check.specs.Inner.Walking.{paths_of}

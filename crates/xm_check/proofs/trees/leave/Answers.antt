@@ -1,8 +1,5 @@
-use Rattle.std.proofs.Common.{◌≡◌, ◌++◌, [], ◌∷◌, ◌+◌, ◌-◌, ◌<◌, ℕ, length, map, reverse, remove, rules, slice_get, Some, List, ◌∙◌, ap, arith, length-append}
+use Rattle.std.proofs.Common.{◌≡◌, ◌++◌, [], ◌∷◌, ◌-◌, ◌<◌, ℕ, length, rules, ◌∙◌, ap, arith, length-append}
 use Rattle.xm_check.proofs.Going.{left_at, one_left, split_last}
-use Rattle.xm_check.specs.declared.trees.Left.{Left}
-use Rattle.xm_lits.specs.declared.literal.Lit.{Lit}
-use Rattle.xm_model.specs.ListView.{ListView}
 use Rattle.xm_check.proofs.trees.leave.Goals as goal
 
 pub loop-alternatives-preserved : goal.loop-alternatives-preserved

@@ -1,7 +1,8 @@
-use Rattle.std.proofs.Common.{◌≡◌, ◌∙◌, ◌⊎◌, ℕ, ap, inr, sym, subst}
-use Rattle.xm_commands.proofs.Whys.{called_is, some_called, why_called, why_complete, why_front, why_known, why_memory, why_quiet, why_read, why_read_unharmed, why_read_within, why_refused, why_told, why_too_long}
+use Rattle.std.proofs.Common.{◌≡◌, ◌∙◌, ◌⊎◌, ℕ, ap, inl, inr, sym, subst}
+use Rattle.xm_commands.proofs.Whys.{done_complete, done_written, refused_not_done, some_called, why_not_done}
+use Rattle.xm_commands.proofs.Whys.{why_called, why_complete, why_front, why_known, why_memory, why_quiet, why_read, why_read_unharmed, why_read_within, why_refused, why_told, why_too_long}
 use Rattle.xm_commands.proofs.Whys.{why_unknown, why_unread, why_unwritten, why_words, why_write, why_write_unharmed}
-use Rattle.xm_commands.specs.Status.{IsRefused, Tells, is_of_input, is_status}
+use Rattle.xm_commands.specs.Status.{IsRefused, Tells, is_done, is_of_input, is_status, outcome_status}
 use Rattle.xm_commands.specs.Inner.WhyEnded.{change}
 use Rattle.xm_commands.specs.Words.{command_of}
 use Rattle.xm_commands.proofs.top.plain.Goals as goal
@@ -55,21 +56,47 @@ returns-in-Err-clause-told g c = λ some other.
     subst (λ (n : ℕ). Tells n (g.E.Sink.held c.args.err.now) (g.E.Sink.held c.refuse.new.err) (g.E.Sink.faults c.args.err.now) (g.E.Sink.faults c.refuse.new.err)) (sym c.refuse.ensures.status)
     (why_told c.in-Err.refusal (g.E.Sink.held c.args.err.now) (g.E.Sink.held c.refuse.new.err) (g.E.Sink.faults c.args.err.now) (g.E.Sink.faults c.refuse.new.err) (ap is_of_input (sym c.refuse.ensures.status) ∙ other) c.refuse.ensures.told)
 
+pub returns-in-Err-clause-written : goal.returns-in-Err-clause-written
+returns-in-Err-clause-written g c = λ it turned called is. absurd (why_not_done c.in-Err.refusal turned (sym c.refuse.ensures.status ∙ is))
+
+pub returns-in-Err-clause-silent : goal.returns-in-Err-clause-silent
+returns-in-Err-clause-silent g c = λ is. absurd (let no = refused_not_done c.in-Err.refusal in let same = ap is_done c.refuse.ensures.status in cc)
+
 pub returns-in-Err-clause-known : goal.returns-in-Err-clause-known
 returns-in-Err-clause-known g c = ap is_status c.refuse.ensures.status ∙ why_known c.in-Err.refusal
 
 pub returns-in-Err-clause-complete : goal.returns-in-Err-clause-complete
-returns-in-Err-clause-complete g c = λ it bytes text called is within output no_read no_write.
-    inr (c.refuse.ensures.status ∙ why_complete it (change g.S.Source.left g.S.Source.faults c.args.source.now c.obey_words.new.source) (change g.K.Sink.held g.K.Sink.faults c.args.out.now c.obey_words.new.out) c.no_loop.ensures c.ends_exclude.ensures bytes text is within output no_read no_write c.in-Err.refusal (why_called (change g.S.Source.left g.S.Source.faults c.args.source.now c.obey_words.new.source) (change g.K.Sink.held g.K.Sink.faults c.args.out.now c.obey_words.new.out) (command_of c.args.words.now) it c.in-Err.refusal called c.in-Err.ensures))
+returns-in-Err-clause-complete g c = λ it turned bytes text called is within output no_read no_write.
+    inr (c.refuse.ensures.status ∙ why_complete it (change g.S.Source.left g.S.Source.faults c.args.source.now c.obey_words.new.source) (change g.K.Sink.held g.K.Sink.faults c.args.out.now c.obey_words.new.out) c.no_loop.ensures c.ends_exclude.ensures bytes text turned is within output no_read no_write c.in-Err.refusal (why_called (change g.S.Source.left g.S.Source.faults c.args.source.now c.obey_words.new.source) (change g.K.Sink.held g.K.Sink.faults c.args.out.now c.obey_words.new.out) (command_of c.args.words.now) it c.in-Err.refusal called c.in-Err.ensures))
 
-pub returns-in-Ok-clause-unknown : goal.returns-in-Ok-clause-unknown
-returns-in-Ok-clause-unknown g c = λ none. absurd (some_called _ (command_of c.args.words.now) c.in-Ok.ensures.0 none)
+pub returns-in-Ok-Yes-clause-unknown : goal.returns-in-Ok-Yes-clause-unknown
+returns-in-Ok-Yes-clause-unknown g c = λ none. absurd (some_called _ (command_of c.args.words.now) c.in-Ok-Yes.ensures.0 none)
 
-pub returns-in-Ok-clause-unread : goal.returns-in-Ok-clause-unread
-returns-in-Ok-clause-unread g c = λ none. absurd (some_called _ (command_of c.args.words.now) c.in-Ok.ensures.0 none)
+pub returns-in-Ok-Yes-clause-unread : goal.returns-in-Ok-Yes-clause-unread
+returns-in-Ok-Yes-clause-unread g c = λ none. absurd (some_called _ (command_of c.args.words.now) c.in-Ok-Yes.ensures.0 none)
 
-pub returns-in-Ok-clause-unwritten : goal.returns-in-Ok-clause-unwritten
-returns-in-Ok-clause-unwritten g c = λ none. absurd (some_called _ (command_of c.args.words.now) c.in-Ok.ensures.0 none)
+pub returns-in-Ok-Yes-clause-unwritten : goal.returns-in-Ok-Yes-clause-unwritten
+returns-in-Ok-Yes-clause-unwritten g c = λ none. absurd (some_called _ (command_of c.args.words.now) c.in-Ok-Yes.ensures.0 none)
 
-pub returns-in-Ok-clause-written : goal.returns-in-Ok-clause-written
-returns-in-Ok-clause-written g c = λ it called is. called_is _ (command_of c.args.words.now) it c.in-Ok.ensures.0 called
+pub returns-in-Ok-Yes-clause-written : goal.returns-in-Ok-Yes-clause-written
+returns-in-Ok-Yes-clause-written g c = λ it turned called status. done_written (change g.S.Source.left g.S.Source.faults c.args.source.now c.obey_words.new.source) (change g.K.Sink.held g.K.Sink.faults c.args.out.now c.obey_words.new.out) (command_of c.args.words.now) it c.in-Ok-Yes.field-0 turned c.in-Ok-Yes.ensures.0 called (ap outcome_status c.in-Ok-Yes.field-0-is ∙ status)
+
+pub returns-in-Ok-Yes-clause-complete : goal.returns-in-Ok-Yes-clause-complete
+returns-in-Ok-Yes-clause-complete g c = λ it turned bytes text called read within output no_read no_write.
+    inl (sym (ap outcome_status c.in-Ok-Yes.field-0-is) ∙ done_complete (change g.S.Source.left g.S.Source.faults c.args.source.now c.obey_words.new.source) (change g.K.Sink.held g.K.Sink.faults c.args.out.now c.obey_words.new.out) (command_of c.args.words.now) it c.in-Ok-Yes.field-0 turned c.one_output.ensures bytes text c.in-Ok-Yes.ensures.0 called read output)
+
+pub returns-in-Ok-No-clause-unknown : goal.returns-in-Ok-No-clause-unknown
+returns-in-Ok-No-clause-unknown g c = λ none. absurd (some_called _ (command_of c.args.words.now) c.in-Ok-No.ensures.0 none)
+
+pub returns-in-Ok-No-clause-unread : goal.returns-in-Ok-No-clause-unread
+returns-in-Ok-No-clause-unread g c = λ none. absurd (some_called _ (command_of c.args.words.now) c.in-Ok-No.ensures.0 none)
+
+pub returns-in-Ok-No-clause-unwritten : goal.returns-in-Ok-No-clause-unwritten
+returns-in-Ok-No-clause-unwritten g c = λ none. absurd (some_called _ (command_of c.args.words.now) c.in-Ok-No.ensures.0 none)
+
+pub returns-in-Ok-No-clause-written : goal.returns-in-Ok-No-clause-written
+returns-in-Ok-No-clause-written g c = λ it turned called status. done_written (change g.S.Source.left g.S.Source.faults c.args.source.now c.obey_words.new.source) (change g.K.Sink.held g.K.Sink.faults c.args.out.now c.obey_words.new.out) (command_of c.args.words.now) it c.in-Ok-No.field-0 turned c.in-Ok-No.ensures.0 called (ap outcome_status c.in-Ok-No.field-0-is ∙ status)
+
+pub returns-in-Ok-No-clause-complete : goal.returns-in-Ok-No-clause-complete
+returns-in-Ok-No-clause-complete g c = λ it turned bytes text called read within output no_read no_write.
+    inl (sym (ap outcome_status c.in-Ok-No.field-0-is) ∙ done_complete (change g.S.Source.left g.S.Source.faults c.args.source.now c.obey_words.new.source) (change g.K.Sink.held g.K.Sink.faults c.args.out.now c.obey_words.new.out) (command_of c.args.words.now) it c.in-Ok-No.field-0 turned c.one_output.ensures bytes text c.in-Ok-No.ensures.0 called read output)

@@ -1,6 +1,8 @@
 use Rattle.std.proofs.Common.{◌+◌, ◌∙◌, ◌∷◌, [], ap, length, refl, sym, subst, take, List, ℕ}
-use Rattle.xm_elim.specs.Inner.Columns.{AreSpread, Covers, columns_of}
-use Rattle.xm_elim.proofs.Covering.{covers_all, covers_more, covers_none, empty_noted, spread_read}
+use Rattle.xm_elim.specs.Inner.Columns.{Covers}
+use Rattle.xm_rows.specs.Columns.{AreSpread, columns_of}
+use Rattle.xm_elim.proofs.Covering.{covers_all, covers_more, covers_none, spread_read}
+use Rattle.xm_rows.specs.Lemmas.Noting.{empty_noted}
 use Rattle.xm_elim.proofs.Stepping.{refilled}
 use Rattle.xm_model.specs.ListView.{ListView}
 use Rattle.xm_elim.proofs.columns.columns_by.Goals as goal

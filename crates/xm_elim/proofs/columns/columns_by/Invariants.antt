@@ -1,5 +1,6 @@
 use Rattle.std.proofs.Common.{◌≡◌, length, take}
-use Rattle.xm_elim.specs.Inner.Columns.{Covers, columns_of}
+use Rattle.xm_elim.specs.Inner.Columns.{Covers}
+use Rattle.xm_rows.specs.Columns.{columns_of}
 use Rattle.xm_elim.proofs.columns.columns_by.Given as goal
 
 abbrev pub invariant-loop-i : goal.invariant-loop-i

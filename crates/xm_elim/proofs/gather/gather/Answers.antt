@@ -3,7 +3,7 @@ use Rattle.std.proofs.lemmas.List.{length-map}
 use Rattle.std.proofs.lemmas.List.Elements.{All-weaker}
 use Rattle.xm_model.specs.ListView.{ListView}
 use Rattle.xm_model.specs.Membership.{IsIn}
-use Rattle.xm_elim.proofs.Covering.{list_read}
+use Rattle.xm_rows.specs.Lemmas.Noting.{list_read}
 use Rattle.xm_flow.specs.Slots.{AreBelow}
 use Rattle.xm_elim.proofs.Gathering.{bounded_at, gathered_more, gathered_none, passed_same, pivot_leads}
 use Rattle.xm_flow.specs.declared.testing.Slot.{Slot}

@@ -1,4 +1,4 @@
-use Rattle.std.proofs.Common.{◌≡◌, sym, ◌∙◌}
+use Rattle.std.proofs.Common.{sym, ◌∙◌}
 use Rattle.xm_proof_reader.proofs.Counting.{ended}
 use Rattle.xm_proof_reader.proofs.goals.is_one_tree.Goals as goal
 

@@ -1,6 +1,6 @@
 use Rattle.std.proofs.Common.{◌≡◌, ◌+◌, ◌*◌, ◌≤◌, ◌^◌, map, drop}
 use Rattle.xm_proof.specs.Argument.{step_of}
-use Rattle.xm_proof_reader.specs.Reading.{are_trees}
+use Rattle.xm_proof.specs.Form.{are_trees}
 use Rattle.xm_proof_reader.proofs.goals.is_one_tree.Given as goal
 
 abbrev pub invariant-loop-i : goal.invariant-loop-i

@@ -3,7 +3,7 @@ use Rattle.std.proofs.lemmas.List.{map_push}
 use Rattle.serde_json.specs.View.{view}
 use Rattle.xm_json.specs.Lemmas.Walk.{goes_on}
 use Rattle.xm_json.specs.Path.{place_of}
-use Rattle.xm_proof_reader.specs.Inner.Views.{known_of}
+use Rattle.xm_proof_reader.specs.Views.{known_of}
 use Rattle.xm_proof.specs.Argument.{step_of}
 use Rattle.xm_proof_reader.specs.Reading.{node_at}
 use Rattle.xm_proof_reader.proofs.goals.nodes_in.Goals as goal

@@ -1,7 +1,7 @@
 use Rattle.std.proofs.Common.{◌≡◌, ◌++◌, ◌∷◌, []}
 use Rattle.serde_json.specs.View.{view}
 use Rattle.xm_json.specs.Path.{place_of}
-use Rattle.xm_proof_reader.specs.Inner.Views.{known_of}
+use Rattle.xm_proof_reader.specs.Views.{known_of}
 use Rattle.xm_proof_reader.specs.Reading.{term_at}
 use Rattle.xm_proof_reader.proofs.After.{goes_on_after}
 use Rattle.xm_proof_reader.proofs.lemmas.entries_in.Goals as goal

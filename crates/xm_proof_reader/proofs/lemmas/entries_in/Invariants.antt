@@ -2,7 +2,7 @@ use Rattle.std.proofs.Common.{◌≡◌, map, drop, None}
 use Rattle.serde_json.specs.View.{view}
 use Rattle.xm_json.specs.Lemmas.Walk.{with_front}
 use Rattle.xm_json.specs.Path.{place_of}
-use Rattle.xm_proof_reader.specs.Inner.Views.{known_of}
+use Rattle.xm_proof_reader.specs.Views.{known_of}
 use Rattle.xm_proof_reader.specs.Reading.{each_after, term_at}
 use Rattle.xm_proof_reader.proofs.lemmas.entries_in.Given as goal
 

@@ -1,6 +1,4 @@
-use Rattle.std.proofs.Common.{◌≡◌, ℤ, sym, subst, ap, to_z-of_z, FitsSigned}
-use Rattle.std.specs.Int.{w128}
-use Rattle.xm_rows.specs.Row.{Fits128, IsRow}
+use Rattle.std.proofs.Common.{to_z-of_z}
 use Rattle.xm_proof_reader.proofs.Rows.{in_width}
 use Rattle.xm_proof_reader.proofs.lemmas.lemma_at.Goals as goal
 

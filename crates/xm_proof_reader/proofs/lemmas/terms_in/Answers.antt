@@ -1,6 +1,4 @@
-use Rattle.std.proofs.Common.{map}
-use Rattle.serde_json.specs.View.{view}
-use Rattle.xm_proof_reader.specs.Inner.Views.{known_of}
+use Rattle.xm_proof_reader.specs.Views.{known_of}
 use Rattle.xm_proof_reader.proofs.Rows.{rows_read}
 use Rattle.xm_proof_reader.proofs.lemmas.terms_in.Goals as goal
 

@@ -1,8 +1,8 @@
-use Rattle.std.proofs.Common.{◌≡◌, ◌++◌, ◌∷◌, [], map}
+use Rattle.std.proofs.Common.{◌≡◌, ◌++◌, ◌∷◌, []}
 use Rattle.serde_json.specs.View.{view}
 use Rattle.xm_json.specs.Lemmas.Walk.{goes_on}
 use Rattle.xm_json.specs.Path.{place_of}
-use Rattle.xm_proof_reader.specs.Inner.Views.{known_of}
+use Rattle.xm_proof_reader.specs.Views.{known_of}
 use Rattle.xm_proof_reader.specs.Reading.{item_at}
 use Rattle.xm_proof_reader.proofs.nodes.items_in.Goals as goal
 

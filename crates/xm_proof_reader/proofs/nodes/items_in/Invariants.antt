@@ -3,7 +3,7 @@ use Rattle.serde_json.specs.View.{view}
 use Rattle.xm_json.specs.Lemmas.Walk.{with_front}
 use Rattle.xm_json.specs.Path.{place_of}
 use Rattle.xm_model.specs.Steps.{each_from}
-use Rattle.xm_proof_reader.specs.Inner.Views.{known_of}
+use Rattle.xm_proof_reader.specs.Views.{known_of}
 use Rattle.xm_proof_reader.specs.Reading.{item_at}
 use Rattle.xm_proof_reader.proofs.nodes.items_in.Given as goal
 

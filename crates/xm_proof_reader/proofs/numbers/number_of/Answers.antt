@@ -1,4 +1,4 @@
-use Rattle.std.proofs.Common.{◌≡◌, sym, subst, ◌∙◌, FitsSigned, to_z-of_z}
+use Rattle.std.proofs.Common.{sym, subst, ◌∙◌, FitsSigned, to_z-of_z}
 use Rattle.std.specs.Int.{w128}
 use Rattle.xm_proof_reader.proofs.Texts.{parsed, unparsed}
 use Rattle.xm_proof_reader.proofs.Rows.{fits_found}

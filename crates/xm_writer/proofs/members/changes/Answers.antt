@@ -3,7 +3,8 @@ use Rattle.serde_json.specs.Data.{Data, put, string}
 use Rattle.serde_json.specs.View.{members_view}
 use Rattle.xm_model.specs.TextLines.{name_at}
 use Rattle.xm_model.specs.Naming.{texts_of}
-use Rattle.xm_writer.proofs.Spelled.{changed_all, changed_more, changed_same, view-String}
+use Rattle.xm_writer.proofs.Spelled.{changed_all, changed_more, changed_same}
+use Rattle.xm_writer.specs.Lemmas.Values.{view-String}
 use Rattle.xm_writer.proofs.members.changes.Goals as goal
 use Rattle.xm_writer.proofs.members.changes.Goals.{then-d-image+in_ok-name+in_ok-put_at_name, else-d-image}
 

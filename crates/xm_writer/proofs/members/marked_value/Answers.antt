@@ -4,7 +4,8 @@ use Rattle.serde_json.specs.View.{items_of, view}
 use Rattle.serde_json.proofs.Views.{view-Array}
 use Rattle.xm_model.specs.Naming.{texts_of}
 use Rattle.xm_writer.specs.Writing.{name_data}
-use Rattle.xm_writer.proofs.Spelled.{grown, marked_all, marked_more, marked_same, view-String}
+use Rattle.xm_writer.proofs.Spelled.{grown, marked_all, marked_more, marked_same}
+use Rattle.xm_writer.specs.Lemmas.Values.{view-String}
 use Rattle.xm_writer.proofs.members.marked_value.Goals as goal
 use Rattle.xm_writer.proofs.members.marked_value.Goals.{then-mark+in_ok-name+in_ok-push, else-mark}
 

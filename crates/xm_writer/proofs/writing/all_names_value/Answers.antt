@@ -6,7 +6,8 @@ use Rattle.serde_json.specs.View.{items_of}
 use Rattle.serde_json.proofs.Views.{view-Array}
 use Rattle.xm_model.specs.TextLines.{name_at}
 use Rattle.xm_model.specs.Naming.{texts_of}
-use Rattle.xm_writer.proofs.Spelled.{grown, view-String}
+use Rattle.xm_writer.proofs.Spelled.{grown}
+use Rattle.xm_writer.specs.Lemmas.Values.{view-String}
 use Rattle.xm_writer.proofs.writing.all_names_value.Goals as goal
 
 pub loop-i-preserved : goal.loop-i-preserved

@@ -1,4 +1,4 @@
-use Rattle.std.proofs.Common.{◌≡◌, ◌++◌, Option, Some, None, List, cond, Bool, length, ℕ, ℤ, ap, sym, ◌∙◌, arith, SFits, rules, map, subst, ◌<◌}
+use Rattle.std.proofs.Common.{◌≡◌, ◌++◌, Option, Some, None, List, cond, Bool, length, ℕ, ℤ, ap, sym, ◌∙◌, SFits, rules, map, subst, ◌<◌}
 use Rattle.std.specs.Prelude.{All, Result, Ok}
 use Rattle.std.specs.Int.{w128}
 use Rattle.std.specs.List.{refill}

@@ -1,4 +1,4 @@
-use Rattle.std.proofs.Common.{◌≡◌, List, ◌∷◌, [], ap, sym, ◌∙◌, ℤ, ℕ, pos, length, refl, subst, replicate, take}
+use Rattle.std.proofs.Common.{◌≡◌, List, [], ap, sym, ◌∙◌, ℤ, ℕ, pos, length, subst, replicate}
 use Rattle.std.specs.List.{refill}
 use Rattle.xm_check.proofs.Adding.{sums_of}
 use Rattle.xm_check.proofs.Touching.{clear_is, none_touched}

@@ -1,4 +1,4 @@
-use Rattle.std.proofs.Common.{◌≡◌, List, ap, sym, ◌∙◌, ℤ, ℕ}
+use Rattle.std.proofs.Common.{List, ap, ◌∙◌, ℤ}
 use Rattle.xm_check.proofs.Touching.{zero_is}
 use Rattle.xm_check.specs.Inner.Touched.{zero_at}
 use Rattle.xm_proof.specs.Sums.{Sums, all_zero}

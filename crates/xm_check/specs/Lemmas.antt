@@ -1,2 +1,0 @@
--- Lemmas that proofs cite.
-pub mod Trees

@@ -1,0 +1,2 @@
+-- Lemmas that proofs of other crates, or of this one, cite.
+pub mod Pairs
