@@ -58,8 +58,8 @@ went_from input out capacity initial (cell.Packets q) φ can = record {
   content = refl;
   roomy = (
     (let h = comes_within (length q.items) capacity input φ can.0.0 can.1 in
-    let j = joined_length q.items (move φ out) (move φ input) in
-    omega arith),
+        let j = joined_length q.items (move φ out) (move φ input) in
+        omega arith),
     can.0.1,
   );
   room = refl;
@@ -98,7 +98,7 @@ pub packets_went : (m : Component) (x y : Cell) (φ : Signals) (input out : ℕ)
     ((capacity : ℕ) (initial : List ℕ) → CanAdvance input out capacity x φ → IsAdvanced (Queue input out capacity initial) x y φ) → IsAdvanced m x y φ
 packets_went (Source o cs md) x y φ input out can went = let h = can.0 in absurd cc
 packets_went (Sink i md) x y φ input out can went = let h = can.0 in absurd cc
-packets_went (Queue i o cap ini) x y φ input out can went = 
+packets_went (Queue i o cap ini) x y φ input out can went =
     let h = can.0 in
     let same_input : input ≡ i = cc in
     let same_out : out ≡ o = cc in

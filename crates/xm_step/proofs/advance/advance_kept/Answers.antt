@@ -63,9 +63,14 @@ advance_holding-requires g c =
 pub loop-i-preserved : goal.loop-i-preserved
 loop-i-preserved g c =
     let ms : List Component = c.args.evaluator.now.net.prims in
-    let it : Holder = get_or c.as_slice-others.result.now c.loop-i.i (record { prim = 0; holds = holding.Packets 0 0 }) in
-    (c.loop-i.invariant.0, (c.loop-i.invariant.1.0, other_gone_by g.C.HasCell.cell ms c.args.cells.now (signals_of c.args.wires.now) c.loop-i.invariant.0 c.as_slice-others.result.now (length ms) c.loop-i.invariant.1.0 c.requires.roomy c.requires.guarded (sym c.requires.roomy.whole)
-    c.loop-i.cells (c.loop-i.auto.cells ∙ c.loop-k.auto.cells) c.loop-i.i it (slice_get-get_or c.as_slice-others.result.now c.loop-i.i (record { prim = 0; holds = holding.Packets 0 0 }) c.loop-i-test.true) c.loop-i.invariant.1.1 c.index-cells-other.result c.advance_holding.new.cell c.advance_holding.ensures))
+    let it : Holder = get_or c.as_slice-others.result.now c.loop-i.i (record { prim = 0; holds = holding.Packets 0 0 }) in (
+      c.loop-i.invariant.0,
+      (
+        c.loop-i.invariant.1.0,
+        other_gone_by g.C.HasCell.cell ms c.args.cells.now (signals_of c.args.wires.now) c.loop-i.invariant.0 c.as_slice-others.result.now (length ms) c.loop-i.invariant.1.0 c.requires.roomy c.requires.guarded (sym c.requires.roomy.whole)
+            c.loop-i.cells (c.loop-i.auto.cells ∙ c.loop-k.auto.cells) c.loop-i.i it (slice_get-get_or c.as_slice-others.result.now c.loop-i.i (record { prim = 0; holds = holding.Packets 0 0 }) c.loop-i-test.true) c.loop-i.invariant.1.1 c.index-cells-other.result c.advance_holding.new.cell c.advance_holding.ensures,
+      ),
+    )
 
 pub returns : goal.returns
 returns g c =

@@ -11,5 +11,5 @@ invariant-loop-k g l = HaveGone l.evaluator.net.prims (map g.C.HasCell.cell l.in
 abbrev pub invariant-loop-i : goal.invariant-loop-i
 invariant-loop-i g l =
     (queues : List QueuePlace)
-    × ( AreKindsTo l.evaluator.net.prims (length l.evaluator.net.prims) queues l.others
-    × HaveGone l.evaluator.net.prims (map g.C.HasCell.cell l.fn.cells) (map g.C.HasCell.cell l.cells) (signals_of l.wires) (IsAmongBoth queues l.others l.i) )
+    × (AreKindsTo l.evaluator.net.prims (length l.evaluator.net.prims) queues l.others
+    × HaveGone l.evaluator.net.prims (map g.C.HasCell.cell l.fn.cells) (map g.C.HasCell.cell l.cells) (signals_of l.wires) (IsAmongBoth queues l.others l.i))

@@ -31,4 +31,3 @@ returns-in-Pref c = λ ms there before.
     let it : Holder = record { prim = c.args.p; holds = holding.Pref c.in-Pref.a c.in-Pref.b c.in-Pref.out } in
     on_ok c.push-in-Pref.result _ _ (λ same. rw same (other_listed ms c.args.p c.args.kinds.now.queues.items c.args.kinds.now.others.items it refl
     (record { prim = _; has = there; holds = rw c.in-Pref.is at c.holding_of.ensures; busy = busy_told _ c.holding_of.result c.holding_of.ensures (λ none. let is = c.in-Pref.is in absurd cc) }) before)) c.push-in-Pref.ensures.ok
-
