@@ -1,16 +1,16 @@
 //! Signals made by one operation.
 
-ghost use Rattle.std.specs.Prelude.{◌≡◌, ◌≢◌, ◌<◌, ◌&&◌, ◌||◌, [], ◌∷◌, ℕ, is_some, length, map, slice_get, List as Colours, Some};
+ghost use Rattle.std.specs.Prelude.{◌≡◌, ◌≢◌, ◌<◌, ◌≤◌, ◌&&◌, ◌||◌, [], ◌∷◌, ℕ, is_some, length, map, slice_get, take, List as Colours, Some};
 ghost use Rattle.xm_model.specs.Component.{Content, Fork, Function, Join, Merge, Queue, Sink, Source, Switch, component_of, content_of};
-ghost use Rattle.xm_model.specs.Signals.{at_side, grant, granted_offer, is_a, is_b, only_if, source_offer, through, to_side_a, to_side_b};
+ghost use Rattle.xm_model.specs.Signals.{Signals as Before, at_side, grant, granted_offer, is_a, is_b, only_if, source_offer, through, to_side_a, to_side_b};
 ghost use Rattle.xm_model.specs.Views.{choice_or, content_at, signals_of};
 ghost use Rattle.xm_model.specs.declared.primitive.SourceMode.TheVariants as source_mode;
 ghost use Rattle.xm_model.specs.declared.state.Choice.{Choice as Chosen};
 ghost use Rattle.xm_order.specs.Dependence.{channel_of};
 ghost use Rattle.xm_order.specs.Settle.{ChangesOnly};
 ghost use Rattle.xm_order.specs.declared.signal.Signal.TheVariants as signal;
-ghost use Rattle.xm_plan.specs.Inner.Made.{AreMade, IsDone};
-ghost use Rattle.xm_plan.specs.Inner.Operations.{FitsOperation, Keeps, all_tasks, kept, table_a_in, table_b_in, table_in, to_a_in};
+ghost use Rattle.xm_plan.specs.Inner.Made.{AreMade, AreSettledTo, IsDone};
+ghost use Rattle.xm_plan.specs.Inner.Operations.{AllFit, FitsOperation, Keeps, all_tasks, kept, table_a_in, table_b_in, table_in, to_a_in};
 ghost use Rattle.xm_plan.specs.Planned.{choice_for};
 ghost use Rattle.xm_plan.specs.Schedule.{ArePlaced, AreSettled, IsSchedule, LeavesOthers};
 ghost use Rattle.xm_plan.specs.declared.operation.Operation.{Operation as Op};
@@ -437,6 +437,206 @@ fn make<C: HasCell>(
     }
 }
 
+/// The kinds of operation, as far as a run of one kind is done by a loop of its own.
+#[derive(Clone, Copy)]
+enum Kind {
+    Source,
+    Sink,
+    Queue,
+    ForkPlain,
+    Join,
+    SwitchOffers,
+    SwitchReady,
+    Merge,
+    Other,
+}
+
+fn kind_of(operation: Operation) -> Kind {
+    match operation {
+        Operation::Source { .. } => Kind::Source,
+        Operation::Sink { .. } => Kind::Sink,
+        Operation::Queue { .. } => Kind::Queue,
+        Operation::ForkPlain { .. } => Kind::ForkPlain,
+        Operation::Join { .. } => Kind::Join,
+        Operation::SwitchOffers { .. } => Kind::SwitchOffers,
+        Operation::SwitchReady { .. } => Kind::SwitchReady,
+        Operation::Merge { .. } => Kind::Merge,
+        Operation::Function { .. } | Operation::Fork { .. } | Operation::One(_) => Kind::Other,
+    }
+}
+
+#[inline(always)]
+fn is_of(kind: Kind, operation: Operation) -> bool {
+    match (kind, operation) {
+        (Kind::Source, Operation::Source { .. })
+        | (Kind::Sink, Operation::Sink { .. })
+        | (Kind::Queue, Operation::Queue { .. })
+        | (Kind::ForkPlain, Operation::ForkPlain { .. })
+        | (Kind::Join, Operation::Join { .. })
+        | (Kind::SwitchOffers, Operation::SwitchOffers { .. })
+        | (Kind::SwitchReady, Operation::SwitchReady { .. })
+        | (Kind::Merge, Operation::Merge { .. }) => true,
+        _ => false,
+    }
+}
+
+/// Does the operation at this place, and those that follow as long as they are of this kind, and gives the place
+/// behind them. It is inlined for each kind, so that a run of one kind is a loop that does not ask for the kind.
+#[inline(always)]
+fn make_run<C: HasCell>(
+    kind: Kind,
+    from: usize,
+    operations: &[Operation],
+    prims: &[Prim],
+    choices: &[u32],
+    cells: &[C],
+    row: &[Choice],
+    wires: &mut [Wire],
+) -> usize
+    requires fit { AllFit (map component_of prims.now) choices.now operations.now }
+    requires placed { ArePlaced (map component_of prims.now) (length wires.old) }
+    requires schedule { IsSchedule (map component_of prims.now) (all_tasks operations.now) }
+    requires cells { length cells.now ≡ length prims.now }
+    requires choices { length choices.now ≡ length prims.now }
+    requires from { from < length operations.now }
+    ensures later { from < result }
+    ensures within { result ≤ length operations.now }
+    ensures settled { (φ : Before) → AreSettledTo (map component_of prims.now) (content_at (map C.cell cells.now))
+        (choice_for choices.now row.now) (all_tasks operations.now) φ (length (all_tasks (take from operations.now)))
+        (signals_of wires.old)
+        → AreSettledTo (map component_of prims.now) (content_at (map C.cell cells.now))
+        (choice_for choices.now row.now) (all_tasks operations.now) φ (length (all_tasks (take result operations.now)))
+        (signals_of wires.new) }
+{
+    make(operations[from], prims, choices, cells, row, wires);
+    let mut k = from + 1;
+    while k < operations.len() && is_of(kind, operations[k]) {
+        make(operations[k], prims, choices, cells, row, wires);
+        k += 1;
+    }
+    k
+}
+
+/// Does the operation at this place, and those of its kind that follow, and gives the place behind them.
+#[inline(always)]
+fn make_some<C: HasCell>(
+    from: usize,
+    operations: &[Operation],
+    prims: &[Prim],
+    choices: &[u32],
+    cells: &[C],
+    row: &[Choice],
+    wires: &mut [Wire],
+) -> usize
+    requires fit { AllFit (map component_of prims.now) choices.now operations.now }
+    requires placed { ArePlaced (map component_of prims.now) (length wires.old) }
+    requires schedule { IsSchedule (map component_of prims.now) (all_tasks operations.now) }
+    requires cells { length cells.now ≡ length prims.now }
+    requires choices { length choices.now ≡ length prims.now }
+    requires from { from < length operations.now }
+    ensures later { from < result }
+    ensures within { result ≤ length operations.now }
+    ensures settled { (φ : Before) → AreSettledTo (map component_of prims.now) (content_at (map C.cell cells.now))
+        (choice_for choices.now row.now) (all_tasks operations.now) φ (length (all_tasks (take from operations.now)))
+        (signals_of wires.old)
+        → AreSettledTo (map component_of prims.now) (content_at (map C.cell cells.now))
+        (choice_for choices.now row.now) (all_tasks operations.now) φ (length (all_tasks (take result operations.now)))
+        (signals_of wires.new) }
+{
+    match kind_of(operations[from]) {
+        Kind::Source => make_run(
+            Kind::Source,
+            from,
+            operations,
+            prims,
+            choices,
+            cells,
+            row,
+            wires,
+        ),
+        Kind::Sink => make_run(
+            Kind::Sink,
+            from,
+            operations,
+            prims,
+            choices,
+            cells,
+            row,
+            wires,
+        ),
+        Kind::Queue => make_run(
+            Kind::Queue,
+            from,
+            operations,
+            prims,
+            choices,
+            cells,
+            row,
+            wires,
+        ),
+        Kind::ForkPlain => make_run(
+            Kind::ForkPlain,
+            from,
+            operations,
+            prims,
+            choices,
+            cells,
+            row,
+            wires,
+        ),
+        Kind::Join => make_run(
+            Kind::Join,
+            from,
+            operations,
+            prims,
+            choices,
+            cells,
+            row,
+            wires,
+        ),
+        Kind::SwitchOffers => make_run(
+            Kind::SwitchOffers,
+            from,
+            operations,
+            prims,
+            choices,
+            cells,
+            row,
+            wires,
+        ),
+        Kind::SwitchReady => make_run(
+            Kind::SwitchReady,
+            from,
+            operations,
+            prims,
+            choices,
+            cells,
+            row,
+            wires,
+        ),
+        Kind::Merge => make_run(
+            Kind::Merge,
+            from,
+            operations,
+            prims,
+            choices,
+            cells,
+            row,
+            wires,
+        ),
+        Kind::Other => make_run(
+            Kind::Other,
+            from,
+            operations,
+            prims,
+            choices,
+            cells,
+            row,
+            wires,
+        ),
+    }
+}
+
 /// Does every operation. It is not inlined: within its one caller the compiler keeps the variables of this loop
 /// on the stack, which cost time in every cycle (measured with callgrind).
 #[inline(never)]
@@ -458,7 +658,8 @@ pub fn make_all<C: HasCell>(
         (all_tasks operations.now) (signals_of wires.new) }
     ensures others { LeavesOthers (all_tasks operations.now) (signals_of wires.old) (signals_of wires.new) }
 {
-    for operation in operations {
-        make(*operation, prims, choices, cells, row, wires);
+    let mut k = 0;
+    while k < operations.len() {
+        k = make_some(k, operations, prims, choices, cells, row, wires);
     }
 }

@@ -10,7 +10,8 @@ use Rattle.xm_model.specs.Signals.{Signals, grant, only_if, pref_in}
 use Rattle.xm_model.specs.declared.state.Cell.{Cell}
 use Rattle.xm_model.specs.declared.state.Cell.TheVariants as cell
 use Rattle.xm_step.specs.Advanced.{IsAdvanced, IsGuarded}
-use Rattle.xm_step.specs.Inner.Cells.{AllAdvance, CanAdvance, CanGoOn, HaveGone, IsGuardedBy}
+use Rattle.xm_step.specs.Inner.Cells.{AllAdvance, CanAdvance, CanGoOn, HaveGone, IsGuardedBy, KeptAdvance}
+use Rattle.xm_step.specs.Still.{HoldsNothing}
 use Rattle.xm_step.specs.Inner.Kinds.{AreKindsTo, IsAmongBoth, IsAmongQueues, IsHolderAt, IsQueueAt}
 use Rattle.xm_step.specs.declared.kinds.Holder.{Holder}
 use Rattle.xm_step.specs.declared.kinds.Holding.TheVariants as holding
@@ -57,8 +58,8 @@ went_from input out capacity initial (cell.Packets q) φ can = record {
   content = refl;
   roomy = (
     (let h = comes_within (length q.items) capacity input φ can.0.0 can.1 in
-    let j = joined_length q.items (move φ out) (move φ input) in
-    omega arith),
+        let j = joined_length q.items (move φ out) (move φ input) in
+        omega arith),
     can.0.1,
   );
   room = refl;
@@ -97,7 +98,7 @@ pub packets_went : (m : Component) (x y : Cell) (φ : Signals) (input out : ℕ)
     ((capacity : ℕ) (initial : List ℕ) → CanAdvance input out capacity x φ → IsAdvanced (Queue input out capacity initial) x y φ) → IsAdvanced m x y φ
 packets_went (Source o cs md) x y φ input out can went = let h = can.0 in absurd cc
 packets_went (Sink i md) x y φ input out can went = let h = can.0 in absurd cc
-packets_went (Queue i o cap ini) x y φ input out can went = 
+packets_went (Queue i o cap ini) x y φ input out can went =
     let h = can.0 in
     let same_input : input ≡ i = cc in
     let same_out : out ≡ o = cc in
@@ -236,16 +237,48 @@ module _ (ms : List Component) (old : List Cell) (φ : Signals) (queues : List Q
         (subst (λ (x : Cell). IsAdvanced is_other.prim x here φ) (other_cell d) (went is_other.prim (other_can d).1))
         before
 
-  pub all_gone : (now : List Cell) (i : ℕ) → length now ≡ length old → length others ≤ i → n ≡ length ms → HaveGone ms old now φ (IsAmongBoth queues others i) → AllAdvance ms old now φ
+  pub all_gone : (now : List Cell) (i : ℕ) → length now ≡ length old → length others ≤ i → n ≡ length ms → HaveGone ms old now φ (IsAmongBoth queues others i) → KeptAdvance ms old now φ
   all_gone now i len all count gone = record {
     whole = len;
-    advanced = λ p m has.
+    advanced = λ p m has busy.
         let within = slice_get_within ms p m has in
-        gone.gone p m (elim (kinds.whole p (omega arith)) [
-          | inl queue ↦ inl (queue.0, (queue.1.0, (slice_get_within queues queue.0 queue.1.0 queue.1.1.0, queue.1.1)))
-          | inr other ↦ inr (other.0, (other.1.0, ((let h = slice_get_within others other.0 other.1.0 other.1.1.0 in omega arith), other.1.1)))
-        ]) has;
+        elim (kinds.whole p (omega arith)) [
+          | inl queue ↦ gone.gone p m (inl (queue.0, (queue.1.0, (slice_get_within queues queue.0 queue.1.0 queue.1.1.0, queue.1.1)))) has
+          | inr rest ↦ elim rest [
+            | inl other ↦ gone.gone p m (inr (other.0, (other.1.0, ((let h = slice_get_within others other.0 other.1.0 other.1.1.0 in omega arith), other.1.1)))) has
+            | inr idle ↦ absurd (busy (let there = idle.has in let same : idle.prim ≡ m = cc in subst HoldsNothing same idle.idle))
+          ]
+        ];
+    rest = λ p m has nothing. gone.rest p (λ among. elim among [
+      | inl queue ↦
+          let at = kinds.queue_at queue.0 queue.1.0 queue.1.1.1.0 in
+          let there : slice_get ms p ≡ Some (Queue queue.1.0.input queue.1.0.out at.0.capacity at.0.initial) = subst (λ (q : ℕ). slice_get ms q ≡ Some (Queue queue.1.0.input queue.1.0.out at.0.capacity at.0.initial)) queue.1.1.1.1 at.0.has in
+          let same : m ≡ Queue queue.1.0.input queue.1.0.out at.0.capacity at.0.initial = cc in
+          subst HoldsNothing same nothing
+      | inr other ↦
+          let at = kinds.other_at other.0 other.1.0 other.1.1.1.0 in
+          let there : slice_get ms p ≡ Some at.0.prim = subst (λ (q : ℕ). slice_get ms q ≡ Some at.0.prim) other.1.1.1.1 at.0.has in
+          let same : m ≡ at.0.prim = cc in
+          at.0.busy (subst HoldsNothing same nothing)
+    ]);
   }
+
+pub each_cell : (ms : List Component) (old now : List Cell) (φ : Signals) (k : ℕ) (d : Cell) → length now ≡ length old → k < length old → HaveGone ms old now φ (λ q. q < k) → get_or now k d ≡ cell_at old k
+each_cell ms old now φ k d len below before = get_or_default now k d cell.Nothing (omega arith) ∙ before.rest k (λ less. let h : k < k = less in absurd (omega arith))
+
+-- one cell more of all, in order
+pub each_gone : (ms : List Component) (old now : List Cell) (φ : Signals) (k : ℕ) (d here : Cell) (m : Component) → length now ≡ length old → k < length old → slice_get ms k ≡ Some m → HaveGone ms old now φ (λ q. q < k) →
+    IsAdvanced m (get_or now k d) here φ → HaveGone ms old (set now k here) φ (λ q. q < k + 1)
+each_gone ms old now φ k d here m len below has before went =
+    gone_more ms old now φ (λ q. q < k) (λ q. q < k + 1) k m here (omega arith) has
+    (λ q after. elim (cases_lt q k) [ inl less ↦ inl less | inr late ↦ inr (let h = after in omega arith) ])
+    (λ q less. omega arith)
+    (omega arith)
+    (subst (λ (x : Cell). IsAdvanced m x here φ) (each_cell ms old now φ k d len below before) went)
+    before
+
+pub all_each : (ms : List Component) (old now : List Cell) (φ : Signals) (k : ℕ) → length now ≡ length old → length ms ≤ k → HaveGone ms old now φ (λ q. q < k) → AllAdvance ms old now φ
+all_each ms old now φ k len all gone = record { whole = len; advanced = λ p m has. gone.gone p m (let h = slice_get_within ms p m has in omega arith) has }
 
 -- once all queues have gone, the first others follow
 pub both_from_queues : (ms : List Component) (old now : List Cell) (φ : Signals) (queues : List QueuePlace) (others : List Holder) (k : ℕ) → k ≡ length queues → HaveGone ms old now φ (IsAmongQueues queues k) →

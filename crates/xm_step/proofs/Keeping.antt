@@ -1,15 +1,17 @@
 -- A state as the cycles keep it.
-use Rattle.std.proofs.Common.{◌≡◌, ℕ, ◌<◌, ◌≤◌, List, Some, None, Option, length, slice_get, Result, Ok, Err, IfOk, map, refl, ap, sym, ◌∙◌, arith}
+use Rattle.std.proofs.Common.{◌≡◌, ℕ, ◌<◌, ◌≤◌, List, Some, None, Option, length, slice_get, Result, Ok, Err, IfOk, inl, inr, ◌⊎◌, map, refl, ap, sym, ◌∙◌, arith}
 use Rattle.std.proofs.lemmas.List.{length-map}
 use Rattle.std.proofs.lemmas.Option.{slice_get_past}
-use Rattle.xm_model.specs.Component.{Component, Fork, Function, Join, Merge, Queue, Sink, Source, Switch, component_of, content_of}
-use Rattle.xm_model.specs.Signals.{packets_in}
+use Rattle.xm_model.specs.Component.{Component, Fork, Function, Join, Merge, Queue, Sink, Source, Switch, Nothing, component_of, content_of}
+use Rattle.xm_model.specs.Signals.{Signals, packets_in}
 use Rattle.xm_model.specs.Views.{content_at, content_or}
 use Rattle.xm_model.specs.declared.state.Cell.{Cell}
 use Rattle.xm_model.specs.declared.state.Cell.TheVariants as cell
 use Rattle.xm_model.specs.declared.primitive.Primitive.{Primitive}
 use Rattle.xm_running.specs.Passing.{HasPlaces}
-use Rattle.xm_step.specs.Inner.Cells.{IsKept, places_in}
+use Rattle.xm_step.specs.Inner.Cells.{AllAdvance, IsKept, KeptAdvance, places_in}
+use Rattle.xm_step.specs.Advanced.{IsAdvanced}
+use Rattle.xm_step.specs.Still.{AreStill, HoldsNothing}
 use Rattle.xm_step.specs.Roomy.{IsRoomy, IsRoomyCell, cell_at}
 use Rattle.xm_step.proofs.Places.{content_at-cell, none_from}
 
@@ -64,3 +66,33 @@ all_roomy ms cells slots whole kept = record { whole = whole; roomy = λ p m has
 
 pub as_many : (prims : List Primitive) (ms : List Component) (cells old : List Cell) → map component_of prims ≡ ms → cells ≡ old → length old ≡ length ms → length prims ≡ length cells
 as_many prims ms cells old same are whole = sym (length-map prims component_of) ∙ ap length same ∙ sym whole ∙ sym (ap length are)
+
+-- what holds nothing stays as it is
+idle_went : (m : Component) (x y : Cell) (φ : Signals) → HoldsNothing m → content_of x ≡ Nothing → y ≡ x → IsAdvanced m x y φ
+idle_went (Source o cs md) x y φ idle none same = absurd idle
+idle_went (Sink i md) x y φ idle none same = absurd idle
+idle_went (Queue i o cap ini) x y φ idle none same = absurd idle
+idle_went (Function i o t) x y φ idle none same = record { content = ap content_of same ∙ none; roomy = tt; room = refl }
+idle_went (Fork i a b t u) x y φ idle none same = record { content = ap content_of same ∙ none; roomy = tt; room = refl }
+idle_went (Join a b o s) x y φ idle none same = record { content = ap content_of same ∙ none; roomy = tt; room = refl }
+idle_went (Switch i a b t) x y φ idle none same = record { content = ap content_of same ∙ none; roomy = tt; room = refl }
+idle_went (Merge a b o) x y φ idle none same = absurd idle
+
+holds_or_not : (m : Component) → HoldsNothing m ⊎ (HoldsNothing m → ⊥)
+holds_or_not (Source o cs md) = inr (λ h. h)
+holds_or_not (Sink i md) = inr (λ h. h)
+holds_or_not (Queue i o cap ini) = inr (λ h. h)
+holds_or_not (Function i o t) = inl tt
+holds_or_not (Fork i a b t u) = inl tt
+holds_or_not (Join a b o s) = inl tt
+holds_or_not (Switch i a b t) = inl tt
+holds_or_not (Merge a b o) = inr (λ h. h)
+
+pub still_went : (ms : List Component) (old new : List Cell) (φ : Signals) → IsRoomy ms old → AreStill ms old → KeptAdvance ms old new φ → AllAdvance ms old new φ
+still_went ms old new φ roomy still kept = record {
+  whole = kept.whole;
+  advanced = λ p m has. elim (holds_or_not m) [
+    | inl idle ↦ idle_went m (cell_at old p) (cell_at new p) φ idle (sym (content_at-cell old p) ∙ still p m has idle) (kept.rest p m has idle)
+    | inr busy ↦ kept.advanced p m has busy
+  ];
+}

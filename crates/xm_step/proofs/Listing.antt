@@ -1,9 +1,12 @@
--- The queues of a net and its other primitives, one more in its list.
-use Rattle.std.proofs.Common.{◌≡◌, ℕ, ◌+◌, List, [], ◌∷◌, ◌++◌, Some, length, Result, Ok, Err, OnOk, ap, ◌∙◌, subst, inl, inr, arith}
+-- The queues of a net and its other primitives that hold something, one more in its list.
+use Rattle.std.proofs.Common.{◌≡◌, ℕ, ◌+◌, List, [], ◌∷◌, ◌++◌, Some, length, slice_get, Result, Ok, Err, OnOk, ap, ◌∙◌, subst, inl, inr, arith}
 use Rattle.std.proofs.lemmas.Bool.{cases_lt}
-use Rattle.xm_model.specs.Component.{Component}
+use Rattle.xm_model.specs.Component.{Component, Fork, Function, Join, Merge, Queue, Sink, Source, Switch}
 use Rattle.xm_order.specs.Lemmas.Items.{get-append_left, get-push_last, push_cases}
-use Rattle.xm_step.specs.Inner.Kinds.{AreKindsTo, IsHolderAt, IsQueueAt}
+use Rattle.xm_step.specs.Inner.Kinds.{AreKindsTo, IsHolderAt, IsHoldingOf, IsIdleAt, IsQueueAt}
+use Rattle.xm_step.specs.Still.{HoldsNothing}
+use Rattle.xm_step.specs.declared.kinds.Holding.{Holding}
+use Rattle.xm_step.specs.declared.kinds.Holding.TheVariants as holding
 use Rattle.xm_step.specs.declared.kinds.Holder.{Holder}
 use Rattle.xm_step.specs.declared.kinds.QueuePlace.{QueuePlace}
 
@@ -27,9 +30,12 @@ other_listed ms n queues others it is_n is_holder before = record {
   whole = λ p h. elim (cases_lt p n) [
     | inl less ↦ elim (before.whole p less) [
       | inl queue ↦ inl queue
-      | inr other ↦ inr (other.0, (other.1.0, (get-append_left others (it ∷ []) other.0 other.1.0 other.1.1.0, other.1.1.1)))
+      | inr rest ↦ elim rest [
+        | inl other ↦ inr (inl (other.0, (other.1.0, (get-append_left others (it ∷ []) other.0 other.1.0 other.1.1.0, other.1.1.1))))
+        | inr idle ↦ inr (inr idle)
+      ]
     ]
-    | inr late ↦ inr (length others, (it, (get-push_last others it, (omega arith))))
+    | inr late ↦ inr (inl (length others, (it, (get-push_last others it, (omega arith)))))
   ];
   queues_once = before.queues_once;
   others_once = λ j k x y at_j at_k same. elim (push_cases others it j x at_j) [
@@ -58,7 +64,7 @@ queue_listed ms n queues others it is_n is_queue before = record {
   whole = λ p h. elim (cases_lt p n) [
     | inl less ↦ elim (before.whole p less) [
       | inl queue ↦ inl (queue.0, (queue.1.0, (get-append_left queues (it ∷ []) queue.0 queue.1.0 queue.1.1.0, queue.1.1.1)))
-      | inr other ↦ inr other
+      | inr rest ↦ inr rest
     ]
     | inr late ↦ inl (length queues, (it, (get-push_last queues it, (omega arith))))
   ];
@@ -78,6 +84,54 @@ queue_listed ms n queues others it is_n is_queue before = record {
     | inr new ↦ (let h = before.other_at k y at_k in let b = h.1 in let e = ap (λ (z : QueuePlace). z.prim) new.1 in absurd (omega arith))
   ];
 }
+
+pub idle_listed : (ms : List Component) (n : ℕ) (queues : List QueuePlace) (others : List Holder) → IsIdleAt ms n → AreKindsTo ms n queues others → AreKindsTo ms (n + 1) queues others
+idle_listed ms n queues others is_idle before = record {
+  queue_at = λ k x at. let h = before.queue_at k x at in (h.0, (let b = h.1 in omega arith));
+  other_at = λ k x at. let h = before.other_at k x at in (h.0, (let b = h.1 in omega arith));
+  whole = λ p h. elim (cases_lt p n) [
+    | inl less ↦ before.whole p less
+    | inr late ↦ (let is : n ≡ p = omega arith in inr (inr (subst (λ (q : ℕ). IsIdleAt ms q) is is_idle)))
+  ];
+  queues_once = before.queues_once;
+  others_once = before.others_once;
+  apart = before.apart;
+}
+
+-- what holds nothing is told by its holding, and what holds packets is a queue
+pub idle_told : (ms : List Component) (p : ℕ) (m : Component) (h : Holding) → slice_get ms p ≡ Some m → IsHoldingOf h m → h ≡ holding.Nothing → IsIdleAt ms p
+idle_told ms p (Source o cs md) h has is none = absurd cc
+idle_told ms p (Sink i md) h has is none = absurd cc
+idle_told ms p (Queue i o cap ini) h has is none = absurd cc
+idle_told ms p (Function i o t) h has is none = record { prim = Function i o t; has = has; idle = tt }
+idle_told ms p (Fork i a b t u) h has is none = record { prim = Fork i a b t u; has = has; idle = tt }
+idle_told ms p (Join a b o s) h has is none = record { prim = Join a b o s; has = has; idle = tt }
+idle_told ms p (Switch i a b t) h has is none = record { prim = Switch i a b t; has = has; idle = tt }
+idle_told ms p (Merge a b o) h has is none = absurd cc
+
+pub busy_told : (m : Component) (h : Holding) → IsHoldingOf h m → (h ≡ holding.Nothing → ⊥) → HoldsNothing m → ⊥
+busy_told (Source o cs md) h is busy idle = idle
+busy_told (Sink i md) h is busy idle = idle
+busy_told (Queue i o cap ini) h is busy idle = idle
+busy_told (Function i o t) h is busy idle = busy is
+busy_told (Fork i a b t u) h is busy idle = busy is
+busy_told (Join a b o s) h is busy idle = busy is
+busy_told (Switch i a b t) h is busy idle = busy is
+busy_told (Merge a b o) h is busy idle = idle
+
+pub queue_told : (ms : List Component) (p : ℕ) (m : Component) (h : Holding) (input out : ℕ) → slice_get ms p ≡ Some m → IsHoldingOf h m → h ≡ holding.Packets input out → IsQueueAt ms (record { prim = p; input = input; out = out })
+queue_told ms p (Queue i o cap ini) h input out has is packets = record {
+  capacity = cap;
+  initial = ini;
+  has = let same_input : i ≡ input = cc in let same_out : o ≡ out = cc in subst (λ (c : ℕ). slice_get ms p ≡ Some (Queue c out cap ini)) same_input (subst (λ (c : ℕ). slice_get ms p ≡ Some (Queue i c cap ini)) same_out has);
+}
+queue_told ms p (Source o cs md) h input out has is packets = absurd cc
+queue_told ms p (Sink i md) h input out has is packets = absurd cc
+queue_told ms p (Function i o t) h input out has is packets = absurd cc
+queue_told ms p (Fork i a b t u) h input out has is packets = absurd cc
+queue_told ms p (Join a b o s) h input out has is packets = absurd cc
+queue_told ms p (Switch i a b t) h input out has is packets = absurd cc
+queue_told ms p (Merge a b o) h input out has is packets = absurd cc
 
 pub on_ok : {T E : Type 0} → (r : Result T E) (P Q : Type 0) → (P → Q) → OnOk r P → OnOk r Q
 on_ok (Ok x) P Q f h = f h

@@ -17,7 +17,7 @@ pub same_length : {X : Type 0} (cell : X → Cell) (xs ys : List X) → length x
 same_length cell xs ys e = length-map xs cell ∙ e ∙ sym (length-map ys cell)
 
 module _ {X : Type 0} (cell : X → Cell) (ms : List Component) (old : List X) (φ : Signals) (queues : List QueuePlace) (others : List Holder) (n : ℕ) (kinds : AreKindsTo ms n queues others) (roomy : IsRoomy ms (map cell old))
-  (guarded : IsGuardedBy ms (map cell old) φ) (whole : n ≡ length (map cell old)) where
+    (guarded : IsGuardedBy ms (map cell old) φ) (whole : n ≡ length (map cell old)) where
   module _ (now : List X) (len : length now ≡ length old) (k : ℕ) (it : QueuePlace) (at : slice_get queues k ≡ Some it) (before : HaveGone ms (map cell old) (map cell now) φ (IsAmongQueues queues k)) where
     pub queue_within_by : it.prim < length now
     queue_within_by =

@@ -32,7 +32,7 @@ pub struct Holder {
     pub holds: Holding,
 }
 
-/// The queues, and all other primitives.
+/// The queues, and all other primitives that hold something.
 #[derive(Drop)]
 pub struct Kinds {
     pub queues: List<QueuePlace>,
@@ -67,21 +67,30 @@ pub fn holding_of(prim: &Prim) -> Holding
     }
 }
 
-/// Appends the primitive to its list.
+/// Appends the primitive to its list, if it holds something.
 fn push_kind(kinds: &mut Kinds, p: u32, prim: &Prim) -> Result<(), OutOfMemory>
     ensures { (ms : Components Component) → slice_get ms p ≡ Some (component_of prim.now)
         → AreKindsTo ms p kinds.old.queues.items kinds.old.others.items
         → OnOk result (AreKindsTo ms (p + 1) kinds.new.queues.items kinds.new.others.items) }
 {
-    match prim {
-        Prim::Queue { input, out, .. } => kinds.queues.push(QueuePlace {
+    match holding_of(prim) {
+        Holding::Nothing => Ok(()),
+        Holding::Packets { input, out } => kinds.queues.push(QueuePlace {
             prim: p,
-            input: *input,
-            out: *out,
+            input,
+            out,
         }),
-        _ => kinds.others.push(Holder {
+        Holding::Pending { out, mode } => kinds.others.push(Holder {
             prim: p,
-            holds: holding_of(prim),
+            holds: Holding::Pending { out, mode },
+        }),
+        Holding::Held { input, mode } => kinds.others.push(Holder {
+            prim: p,
+            holds: Holding::Held { input, mode },
+        }),
+        Holding::Pref { a, b, out } => kinds.others.push(Holder {
+            prim: p,
+            holds: Holding::Pref { a, b, out },
         }),
     }
 }

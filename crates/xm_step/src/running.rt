@@ -10,8 +10,9 @@ ghost use Rattle.xm_model.specs.Views.{IsFrameOf, IsNextOf, choice_at, content_a
 ghost use Rattle.xm_order.specs.OneFrame.{SameFrame};
 ghost use Rattle.xm_step.specs.Inner.Cells.{IsKept, places_in};
 ghost use Rattle.xm_step.specs.Roomy.{IsRoomy, IsRoomyCell, SameRooms};
+ghost use Rattle.xm_step.specs.Still.{AreStill};
 
-use crate::advance::advance_all;
+use crate::advance::advance_kept;
 use crate::cycle::solve;
 use crate::evaluator::Evaluator;
 use std::alloc::Global;
@@ -52,7 +53,8 @@ pub fn running_of(alloc: Global, design: &Design, state: &State) -> Result<Runni
     Ok(Running { slots })
 }
 
-/// One cycle: `frame` becomes the frame of the state, and then the state the next one. No room changes.
+/// One cycle: `frame` becomes the frame of the state, and then the state the next one. No room changes. What holds
+/// nothing is not visited.
 pub fn step_running(
     evaluator: &Evaluator,
     running: &mut Running,
@@ -60,6 +62,7 @@ pub fn step_running(
     frame: &mut Frame,
 )
     requires roomy { IsRoomy evaluator.now.net.prims running.old.slots.items }
+    requires still { AreStill evaluator.now.net.prims running.old.slots.items }
     requires wires { length frame.old.wires.items ≡ evaluator.now.net.channels }
     ensures frame { IsFrameOf evaluator.now.net running.old.slots.items choices.now frame.new.wires.items }
     ensures only { (φ : Signals)
@@ -85,7 +88,7 @@ pub fn step_running(
         choices,
         frame.wires.as_mut_slice(),
     );
-    advance_all(
+    advance_kept(
         evaluator,
         running.slots.as_mut_slice(),
         frame.wires.as_slice(),

@@ -4,3 +4,4 @@ pub mod Cycles
 pub mod Labelling
 pub mod RoundAdded
 pub mod Running
+pub mod Still

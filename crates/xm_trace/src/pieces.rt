@@ -98,7 +98,9 @@ fn put_short(out: &mut [u8], at: usize, bytes: &[u8; SHORT])
     ensures text { take (at + length bytes.now) out.new ≡ take at out.old ++ bytes.now }
     ensures len { length out.new ≡ length out.old }
 {
-    out[at..at + SHORT].copy_from_slice(bytes);
+    // A copy that cannot overlap `out` is one load and one store (seen in the disassembly).
+    let copied = *bytes;
+    out[at..at + SHORT].copy_from_slice(&copied);
 }
 
 /// Writes the text at this place. It is not inlined, so that the loop over the moves stays small.

@@ -57,6 +57,7 @@ impl RunText {
     ghost use Rattle.xm_model.specs.Run.{moves};
     ghost use Rattle.xm_model.specs.Signals.{Signals};
     ghost use Rattle.xm_step.specs.Roomy.{SameRooms};
+    ghost use Rattle.xm_step.specs.Still.{AreStill};
     ghost use Rattle.xm_tape.specs.Taped.{cycles_of};
     ghost use Rattle.xm_trace.specs.Inner.Labels.{AreReady, labelled_of, move_room};
     ghost use Rattle.xm_trace.specs.Labels.{AreLabelsOf};
@@ -108,6 +109,7 @@ impl RunText {
         requires ready { AreReady texts.now }
         requires labels { length (labelled_of texts.now).channels ≡ self.old.channels }
         requires here { IsUnderway evaluator.now.net rows.old.tape self.old running.old.slots.items }
+        requires still { AreStill evaluator.now.net.prims running.old.slots.items }
         requires few { (c d : ℕ) → c < self.old.channels → d < self.old.colours
             → sum_at self.old.sums self.old.colours c d < 2 ^ 32 }
         requires row { rows.old.cycle ≡ self.old.cycles }

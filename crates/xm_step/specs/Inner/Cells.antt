@@ -7,6 +7,7 @@ use Rattle.xm_model.specs.declared.state.Cell.{Cell}
 use Rattle.xm_step.specs.Advanced.{IsAdvanced, IsGuarded}
 use Rattle.xm_step.specs.Inner.Kinds.{IsHoldingOf}
 use Rattle.xm_step.specs.Roomy.{IsRoomyCell, cell_at}
+use Rattle.xm_step.specs.Still.{HoldsNothing}
 use Rattle.xm_step.specs.declared.kinds.Holding.{Holding}
 
 pub record IsGuardedBy (ms : List Component) (cells : List Cell) (φ : Signals) : Type 0 where
@@ -30,6 +31,13 @@ pub record HaveGone (ms : List Component) (old new : List Cell) (φ : Signals) (
 pub record AllAdvance (ms : List Component) (old new : List Cell) (φ : Signals) : Type 0 where
   pub whole : length new ≡ length old
   pub advanced : (p : ℕ) (m : Component) → slice_get ms p ≡ Some m → IsAdvanced m (cell_at old p) (cell_at new p) φ
+
+-- the cells of all primitives that hold something went on, and the others are as they were
+pub record KeptAdvance (ms : List Component) (old new : List Cell) (φ : Signals) : Type 0 where
+  pub whole : length new ≡ length old
+  pub advanced : (p : ℕ) (m : Component) → slice_get ms p ≡ Some m → (HoldsNothing m → ⊥) →
+      IsAdvanced m (cell_at old p) (cell_at new p) φ
+  pub rest : (p : ℕ) (m : Component) → slice_get ms p ≡ Some m → HoldsNothing m → cell_at new p ≡ cell_at old p
 
 -- the cell is that at reset, with its room
 pub record IsResetCell (m : Component) (x : Cell) : Type 0 where

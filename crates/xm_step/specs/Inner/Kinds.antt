@@ -1,6 +1,7 @@
--- Inner: the queues of a net and its other primitives, listed. No public clause cites these.
+-- Inner: the queues of a net and its other primitives that hold something, listed. No public clause cites these.
 use Rattle.std.specs.Prelude.{◌≡◌, ℕ, ◌<◌, ◌⊎◌, List, Some, length, slice_get}
 use Rattle.xm_model.specs.Component.{Component, Merge, Queue, Sink, Source}
+use Rattle.xm_step.specs.Still.{HoldsNothing}
 use Rattle.xm_step.specs.declared.kinds.Holder.{Holder}
 use Rattle.xm_step.specs.declared.kinds.Holding.{Holding}
 use Rattle.xm_step.specs.declared.kinds.Holding.TheVariants as holding
@@ -25,14 +26,21 @@ pub record IsHolderAt (ms : List Component) (it : Holder) : Type 0 where
   pub prim : Component
   pub has : slice_get ms it.prim ≡ Some prim
   pub holds : IsHoldingOf it.holds prim
+  pub busy : HoldsNothing prim → ⊥
 
--- each primitive below n stands once, in one of the lists, and no other does
+-- the primitive at this number holds nothing
+pub record IsIdleAt (ms : List Component) (p : ℕ) : Type 0 where
+  pub prim : Component
+  pub has : slice_get ms p ≡ Some prim
+  pub idle : HoldsNothing prim
+
+-- each primitive below n that holds something stands once, in one of the lists, and no other does
 pub record AreKindsTo (ms : List Component) (n : ℕ) (queues : List QueuePlace) (others : List Holder) : Type 0 where
   pub queue_at : (k : ℕ) (it : QueuePlace) → slice_get queues k ≡ Some it → IsQueueAt ms it × (it.prim < n)
   pub other_at : (k : ℕ) (it : Holder) → slice_get others k ≡ Some it → IsHolderAt ms it × (it.prim < n)
   pub whole : (p : ℕ) → p < n →
       ((k : ℕ) × ((it : QueuePlace) × ((slice_get queues k ≡ Some it) × (it.prim ≡ p))))
-      ⊎ ((k : ℕ) × ((it : Holder) × ((slice_get others k ≡ Some it) × (it.prim ≡ p))))
+      ⊎ (((k : ℕ) × ((it : Holder) × ((slice_get others k ≡ Some it) × (it.prim ≡ p)))) ⊎ IsIdleAt ms p)
   pub queues_once : (j k : ℕ) (x y : QueuePlace) → slice_get queues j ≡ Some x → slice_get queues k ≡ Some y →
       x.prim ≡ y.prim → j ≡ k
   pub others_once : (j k : ℕ) (x y : Holder) → slice_get others j ≡ Some x → slice_get others k ≡ Some y →

@@ -39,7 +39,7 @@ loop-p-preserved c =
     record {
       len = rw c.in_ok-push.ensures.ok (simp length-append (omega (arith, c.loop-p.invariant.len)));
       kept = rw c.in_ok-push.ensures.ok (listed_more (λ k n y. IsKept n (cell_at cells k) y) (map component_of c.as_slice-prims.result.now) c.loop-p.slots.items _ c.loop-p.p (component_of c.index-prims-p.result) c.loop-p.invariant.len there
-      (subst (λ (x : Cell). IsKept (component_of c.index-prims-p.result) x c.in_ok-slot_of.field-0) (sym here) c.in_ok-slot_of.ensures) c.loop-p.invariant.kept);
+          (subst (λ (x : Cell). IsKept (component_of c.index-prims-p.result) x c.in_ok-slot_of.field-0) (sym here) c.in_ok-slot_of.ensures) c.loop-p.invariant.kept);
     }
 
 pub returns : goal.returns

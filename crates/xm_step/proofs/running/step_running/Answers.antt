@@ -5,13 +5,14 @@ use Rattle.xm_model.specs.Frame.{IsFrame}
 use Rattle.xm_model.specs.Lending.{refill-full}
 use Rattle.xm_model.specs.Next.{FitsContent}
 use Rattle.xm_model.specs.Views.{IsNextOf, choice_at, content_at, signals_of}
-use Rattle.xm_step.specs.Inner.Cells.{AllAdvance}
+use Rattle.xm_step.specs.Inner.Cells.{AllAdvance, KeptAdvance}
+use Rattle.xm_step.proofs.Keeping.{still_went}
 use Rattle.xm_step.specs.Roomy.{IsRoomy, SameRooms}
 use Rattle.xm_step.proofs.Advancing.{guarded_from_frame, next_from_cells}
 use Rattle.xm_step.proofs.running.step_running.Goals as goal
 
-pub advance_all-requires-clause-guarded : goal.advance_all-requires-clause-guarded
-advance_all-requires-clause-guarded c =
+pub advance_kept-requires-clause-guarded : goal.advance_kept-requires-clause-guarded
+advance_kept-requires-clause-guarded c =
     let full = refill-full (length c.args.frame.now.wires.items) c.args.frame.now.wires.items c.solve.new.wires (c.solve.auto.wires ∙ ap length c.as_mut_slice.ensures.value) in
     let made : IsFrame c.args.evaluator.now.net (content_at c.args.running.now.slots.items) (choice_at c.args.evaluator.now.net.prims c.args.choices.now) (signals_of c.solve.new.wires) = rw (map-id c.as_slice.result.now, c.as_slice.ensures) at c.solve.ensures.frame in
     rw (map-id c.as_mut_slice-2.result.now, c.as_mut_slice-2.ensures.value, c.as_slice-2.ensures, full) (guarded_from_frame c.args.evaluator.now.net c.args.running.now.slots.items c.solve.new.wires (record { choices = choice_at c.args.evaluator.now.net.prims c.args.choices.now; frame = made }))
@@ -32,27 +33,30 @@ pub returns-clause-next : goal.returns-clause-next
 returns-clause-next c =
     let full = refill-full (length c.args.frame.now.wires.items) c.args.frame.now.wires.items c.solve.new.wires (c.solve.auto.wires ∙ ap length c.as_mut_slice.ensures.value) in
     let made : IsFrame c.args.evaluator.now.net (content_at c.args.running.now.slots.items) (choice_at c.args.evaluator.now.net.prims c.args.choices.now) (signals_of c.solve.new.wires) = rw (map-id c.as_slice.result.now, c.as_slice.ensures) at c.solve.ensures.frame in
-    let went : AllAdvance c.args.evaluator.now.net.prims c.args.running.now.slots.items c.advance_all.new.cells (signals_of c.solve.new.wires) = rw (map-id c.as_mut_slice-2.result.now, map-id c.advance_all.new.cells, c.as_mut_slice-2.ensures.value, c.as_slice-2.ensures, full) at c.advance_all.ensures in
-    let whole = refill-full (length c.args.running.now.slots.items) c.args.running.now.slots.items c.advance_all.new.cells went.whole in
-    rw (full, whole) (next_from_cells c.args.evaluator.now.net c.args.running.now.slots.items c.advance_all.new.cells (signals_of c.solve.new.wires) c.requires.roomy.whole went)
+    let kept : KeptAdvance c.args.evaluator.now.net.prims c.args.running.now.slots.items c.advance_kept.new.cells (signals_of c.solve.new.wires) = rw (map-id c.as_mut_slice-2.result.now, map-id c.advance_kept.new.cells, c.as_mut_slice-2.ensures.value, c.as_slice-2.ensures, full) at c.advance_kept.ensures in
+    let went : AllAdvance c.args.evaluator.now.net.prims c.args.running.now.slots.items c.advance_kept.new.cells (signals_of c.solve.new.wires) = still_went _ _ _ _ c.requires.roomy c.requires.still kept in
+    let whole = refill-full (length c.args.running.now.slots.items) c.args.running.now.slots.items c.advance_kept.new.cells went.whole in
+    rw (full, whole) (next_from_cells c.args.evaluator.now.net c.args.running.now.slots.items c.advance_kept.new.cells (signals_of c.solve.new.wires) c.requires.roomy.whole went)
 
 pub returns-clause-roomy : goal.returns-clause-roomy
 returns-clause-roomy c =
     let full = refill-full (length c.args.frame.now.wires.items) c.args.frame.now.wires.items c.solve.new.wires (c.solve.auto.wires ∙ ap length c.as_mut_slice.ensures.value) in
     let made : IsFrame c.args.evaluator.now.net (content_at c.args.running.now.slots.items) (choice_at c.args.evaluator.now.net.prims c.args.choices.now) (signals_of c.solve.new.wires) = rw (map-id c.as_slice.result.now, c.as_slice.ensures) at c.solve.ensures.frame in
-    let went : AllAdvance c.args.evaluator.now.net.prims c.args.running.now.slots.items c.advance_all.new.cells (signals_of c.solve.new.wires) = rw (map-id c.as_mut_slice-2.result.now, map-id c.advance_all.new.cells, c.as_mut_slice-2.ensures.value, c.as_slice-2.ensures, full) at c.advance_all.ensures in
-    let whole = refill-full (length c.args.running.now.slots.items) c.args.running.now.slots.items c.advance_all.new.cells went.whole in
-    let roomy : IsRoomy c.args.evaluator.now.net.prims c.advance_all.new.cells = record { whole = went.whole ∙ c.requires.roomy.whole; roomy = λ p m has. (went.advanced p m has).roomy } in
+    let kept : KeptAdvance c.args.evaluator.now.net.prims c.args.running.now.slots.items c.advance_kept.new.cells (signals_of c.solve.new.wires) = rw (map-id c.as_mut_slice-2.result.now, map-id c.advance_kept.new.cells, c.as_mut_slice-2.ensures.value, c.as_slice-2.ensures, full) at c.advance_kept.ensures in
+    let went : AllAdvance c.args.evaluator.now.net.prims c.args.running.now.slots.items c.advance_kept.new.cells (signals_of c.solve.new.wires) = still_went _ _ _ _ c.requires.roomy c.requires.still kept in
+    let whole = refill-full (length c.args.running.now.slots.items) c.args.running.now.slots.items c.advance_kept.new.cells went.whole in
+    let roomy : IsRoomy c.args.evaluator.now.net.prims c.advance_kept.new.cells = record { whole = went.whole ∙ c.requires.roomy.whole; roomy = λ p m has. (went.advanced p m has).roomy } in
     rw whole roomy
 
 pub returns-clause-fitting : goal.returns-clause-fitting
 returns-clause-fitting c = λ fitting choices p m has.
     let full = refill-full (length c.args.frame.now.wires.items) c.args.frame.now.wires.items c.solve.new.wires (c.solve.auto.wires ∙ ap length c.as_mut_slice.ensures.value) in
     let made : IsFrame c.args.evaluator.now.net (content_at c.args.running.now.slots.items) (choice_at c.args.evaluator.now.net.prims c.args.choices.now) (signals_of c.solve.new.wires) = rw (map-id c.as_slice.result.now, c.as_slice.ensures) at c.solve.ensures.frame in
-    let went : AllAdvance c.args.evaluator.now.net.prims c.args.running.now.slots.items c.advance_all.new.cells (signals_of c.solve.new.wires) = rw (map-id c.as_mut_slice-2.result.now, map-id c.advance_all.new.cells, c.as_mut_slice-2.ensures.value, c.as_slice-2.ensures, full) at c.advance_all.ensures in
-    let whole = refill-full (length c.args.running.now.slots.items) c.args.running.now.slots.items c.advance_all.new.cells went.whole in
+    let kept : KeptAdvance c.args.evaluator.now.net.prims c.args.running.now.slots.items c.advance_kept.new.cells (signals_of c.solve.new.wires) = rw (map-id c.as_mut_slice-2.result.now, map-id c.advance_kept.new.cells, c.as_mut_slice-2.ensures.value, c.as_slice-2.ensures, full) at c.advance_kept.ensures in
+    let went : AllAdvance c.args.evaluator.now.net.prims c.args.running.now.slots.items c.advance_kept.new.cells (signals_of c.solve.new.wires) = still_went _ _ _ _ c.requires.roomy c.requires.still kept in
+    let whole = refill-full (length c.args.running.now.slots.items) c.args.running.now.slots.items c.advance_kept.new.cells went.whole in
     let net = c.args.evaluator.now.net in
-    let next : IsNextOf c.args.evaluator.now.net c.args.running.now.slots.items (signals_of c.solve.new.wires) c.advance_all.new.cells = next_from_cells c.args.evaluator.now.net c.args.running.now.slots.items c.advance_all.new.cells (signals_of c.solve.new.wires) c.requires.roomy.whole went in
+    let next : IsNextOf c.args.evaluator.now.net c.args.running.now.slots.items (signals_of c.solve.new.wires) c.advance_kept.new.cells = next_from_cells c.args.evaluator.now.net c.args.running.now.slots.items c.advance_kept.new.cells (signals_of c.solve.new.wires) c.requires.roomy.whole went in
     let law = c.fits_next.ensures net c.args.evaluator.now.order (content_at c.args.running.now.slots.items) (choice_at net.prims c.args.choices.now) (signals_of c.solve.new.wires) c.design.ensures.designed.net c.design.ensures.designed.order fitting choices made in
     rw whole (subst (λ (x : Content). FitsContent c.args.evaluator.now.net.colours m x) (sym (next.same p)) (law p m has))
 
@@ -60,7 +64,8 @@ pub returns-clause-rooms : goal.returns-clause-rooms
 returns-clause-rooms c =
     let full = refill-full (length c.args.frame.now.wires.items) c.args.frame.now.wires.items c.solve.new.wires (c.solve.auto.wires ∙ ap length c.as_mut_slice.ensures.value) in
     let made : IsFrame c.args.evaluator.now.net (content_at c.args.running.now.slots.items) (choice_at c.args.evaluator.now.net.prims c.args.choices.now) (signals_of c.solve.new.wires) = rw (map-id c.as_slice.result.now, c.as_slice.ensures) at c.solve.ensures.frame in
-    let went : AllAdvance c.args.evaluator.now.net.prims c.args.running.now.slots.items c.advance_all.new.cells (signals_of c.solve.new.wires) = rw (map-id c.as_mut_slice-2.result.now, map-id c.advance_all.new.cells, c.as_mut_slice-2.ensures.value, c.as_slice-2.ensures, full) at c.advance_all.ensures in
-    let whole = refill-full (length c.args.running.now.slots.items) c.args.running.now.slots.items c.advance_all.new.cells went.whole in
-    let same : SameRooms c.args.evaluator.now.net.prims c.args.running.now.slots.items c.advance_all.new.cells = λ p m there. (went.advanced p m there).room in
+    let kept : KeptAdvance c.args.evaluator.now.net.prims c.args.running.now.slots.items c.advance_kept.new.cells (signals_of c.solve.new.wires) = rw (map-id c.as_mut_slice-2.result.now, map-id c.advance_kept.new.cells, c.as_mut_slice-2.ensures.value, c.as_slice-2.ensures, full) at c.advance_kept.ensures in
+    let went : AllAdvance c.args.evaluator.now.net.prims c.args.running.now.slots.items c.advance_kept.new.cells (signals_of c.solve.new.wires) = still_went _ _ _ _ c.requires.roomy c.requires.still kept in
+    let whole = refill-full (length c.args.running.now.slots.items) c.args.running.now.slots.items c.advance_kept.new.cells went.whole in
+    let same : SameRooms c.args.evaluator.now.net.prims c.args.running.now.slots.items c.advance_kept.new.cells = λ p m there. (went.advanced p m there).room in
     rw whole same

@@ -2,6 +2,7 @@ use Rattle.std.proofs.Common.{subst, ◌≡◌, ◌<◌, ◌+◌, ◌-◌, ◌�
 use Rattle.xm_tape.specs.Taped.{Taped, chosen, cycles_of, rows_of}
 use Rattle.xm_trace.proofs.Cycles.{rounds_join}
 use Rattle.xm_trace.proofs.RoundAdded.{few_had}
+use Rattle.xm_trace.proofs.Still.{still_in_run}
 use Rattle.xm_trace.specs.Rounds.{IsUnderway}
 use Rattle.xm_trace.specs.Runs.{IsRunOf}
 use Rattle.xm_trace.specs.Text.{round_lines}
@@ -14,6 +15,14 @@ run_cycle-requires-clause-few c k d below within =
     let found = (c.one_run.ensures net c.args.evaluator.now.order (cycles_of tape) (chosen net.prims (rows_of tape)) c.design-design.ensures.designed.net c.design-design.ensures.designed.order).0 in
     let few : c.loop-texts.self.cycles < 2 ^ 32 = omega (arith, c.loop-texts.invariant.within, c.ranges.to.fits) in
     few_had c.loop-texts.self found.1.0 k d (c.loop-texts.invariant.here.had found.0 found.1.0 found.1.1) few below within
+
+pub run_cycle-requires-clause-still : goal.run_cycle-requires-clause-still
+run_cycle-requires-clause-still c p m has idle =
+    let net = c.args.evaluator.now.net in
+    let tape = c.args.rows.now.tape in
+    let found = (c.one_run.ensures net c.args.evaluator.now.order (cycles_of tape) (chosen net.prims (rows_of tape)) c.design-design.ensures.designed.net c.design-design.ensures.designed.order).0 in
+    let here = c.loop-texts.invariant.here.cells found.0 found.1.0 found.1.1 p in
+    here ∙ still_in_run net (cycles_of tape) (chosen net.prims (rows_of tape)) found.0 found.1.0 found.1.1 c.loop-texts.self.cycles p m (omega (arith, c.loop-texts.invariant.within, c.requires.within)) has idle
 
 pub loop-texts-preserved : goal.loop-texts-preserved
 loop-texts-preserved c =

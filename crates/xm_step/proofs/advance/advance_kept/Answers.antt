@@ -1,0 +1,79 @@
+use Rattle.std.proofs.Common.{List, length, map, get_or, refl, sym, ◌∙◌, rules, arith}
+use Rattle.std.proofs.lemmas.Option.{slice_get-get_or}
+use Rattle.xm_model.specs.Component.{Component}
+use Rattle.xm_model.specs.Views.{signals_of}
+use Rattle.xm_step.specs.Inner.Kinds.{AreKindsTo}
+use Rattle.xm_step.specs.declared.kinds.Holder.{Holder}
+use Rattle.xm_step.specs.declared.kinds.Holding.TheVariants as holding
+use Rattle.xm_step.specs.declared.kinds.QueuePlace.{QueuePlace}
+use Rattle.xm_step.proofs.Going.{all_gone, both_from_queues}
+use Rattle.xm_step.proofs.Mapped.{other_can_by, other_gone_by, other_within_by, queue_can_by, queue_gone_by, queue_within_by, same_length}
+use Rattle.xm_step.proofs.advance.advance_kept.Goals as goal
+
+pub bounds-cells-queue : goal.bounds-cells-queue
+bounds-cells-queue g c =
+    let ms : List Component = c.args.evaluator.now.net.prims in
+    let kinds : AreKindsTo ms (length ms) c.as_slice-queues.result.now c.as_slice-others.result.now = rw (c.as_slice-queues.ensures, c.as_slice-others.ensures) c.kinds-kinds.ensures in
+    let it : QueuePlace = get_or c.as_slice-queues.result.now c.loop-k.k (record { prim = 0; input = 0; out = 0 }) in
+    queue_within_by g.C.HasCell.cell ms c.args.cells.now (signals_of c.args.wires.now) c.as_slice-queues.result.now c.as_slice-others.result.now (length ms) kinds c.requires.roomy c.requires.guarded (sym c.requires.roomy.whole)
+    c.loop-k.cells c.loop-k.auto.cells c.loop-k.k it (slice_get-get_or c.as_slice-queues.result.now c.loop-k.k (record { prim = 0; input = 0; out = 0 }) c.loop-k-test.true) c.loop-k.invariant
+
+pub offset_bounds-cells-queue : goal.offset_bounds-cells-queue
+offset_bounds-cells-queue g c = let within = bounds-cells-queue g c in search rules
+
+pub advance_queue_cell-requires : goal.advance_queue_cell-requires
+advance_queue_cell-requires g c =
+    let ms : List Component = c.args.evaluator.now.net.prims in
+    let kinds : AreKindsTo ms (length ms) c.as_slice-queues.result.now c.as_slice-others.result.now = rw (c.as_slice-queues.ensures, c.as_slice-others.ensures) c.kinds-kinds.ensures in
+    let it : QueuePlace = get_or c.as_slice-queues.result.now c.loop-k.k (record { prim = 0; input = 0; out = 0 }) in
+    queue_can_by g.C.HasCell.cell ms c.args.cells.now (signals_of c.args.wires.now) c.as_slice-queues.result.now c.as_slice-others.result.now (length ms) kinds c.requires.roomy c.requires.guarded (sym c.requires.roomy.whole)
+    c.loop-k.cells c.loop-k.auto.cells c.loop-k.k it (slice_get-get_or c.as_slice-queues.result.now c.loop-k.k (record { prim = 0; input = 0; out = 0 }) c.loop-k-test.true) c.loop-k.invariant c.index-cells-queue.result
+
+pub loop-k-preserved : goal.loop-k-preserved
+loop-k-preserved g c =
+    let ms : List Component = c.args.evaluator.now.net.prims in
+    let kinds : AreKindsTo ms (length ms) c.as_slice-queues.result.now c.as_slice-others.result.now = rw (c.as_slice-queues.ensures, c.as_slice-others.ensures) c.kinds-kinds.ensures in
+    let it : QueuePlace = get_or c.as_slice-queues.result.now c.loop-k.k (record { prim = 0; input = 0; out = 0 }) in
+    queue_gone_by g.C.HasCell.cell ms c.args.cells.now (signals_of c.args.wires.now) c.as_slice-queues.result.now c.as_slice-others.result.now (length ms) kinds c.requires.roomy c.requires.guarded (sym c.requires.roomy.whole)
+    c.loop-k.cells c.loop-k.auto.cells c.loop-k.k it (slice_get-get_or c.as_slice-queues.result.now c.loop-k.k (record { prim = 0; input = 0; out = 0 }) c.loop-k-test.true) c.loop-k.invariant c.index-cells-queue.result c.advance_queue_cell.new.cell c.advance_queue_cell.ensures
+
+pub loop-i-init : goal.loop-i-init
+loop-i-init g c =
+    let ms : List Component = c.args.evaluator.now.net.prims in
+    let kinds : AreKindsTo ms (length ms) c.as_slice-queues.result.now c.as_slice-others.result.now = rw (c.as_slice-queues.ensures, c.as_slice-others.ensures) c.kinds-kinds.ensures in
+    (c.as_slice-queues.result.now, (kinds, both_from_queues ms (map g.C.HasCell.cell c.args.cells.now) (map g.C.HasCell.cell c.loop-k.cells) (signals_of c.args.wires.now) c.as_slice-queues.result.now c.as_slice-others.result.now c.loop-k.k (let end = c.loop-k.auto.k-end in omega (arith, c.loop-k-test.false)) c.loop-k.invariant))
+
+pub bounds-cells-other : goal.bounds-cells-other
+bounds-cells-other g c =
+    let ms : List Component = c.args.evaluator.now.net.prims in
+    let it : Holder = get_or c.as_slice-others.result.now c.loop-i.i (record { prim = 0; holds = holding.Packets 0 0 }) in
+    other_within_by g.C.HasCell.cell ms c.args.cells.now (signals_of c.args.wires.now) c.loop-i.invariant.0 c.as_slice-others.result.now (length ms) c.loop-i.invariant.1.0 c.requires.roomy c.requires.guarded (sym c.requires.roomy.whole)
+    c.loop-i.cells (c.loop-i.auto.cells ∙ c.loop-k.auto.cells) c.loop-i.i it (slice_get-get_or c.as_slice-others.result.now c.loop-i.i (record { prim = 0; holds = holding.Packets 0 0 }) c.loop-i-test.true) c.loop-i.invariant.1.1
+
+pub offset_bounds-cells-other : goal.offset_bounds-cells-other
+offset_bounds-cells-other g c = let within = bounds-cells-other g c in search rules
+
+pub advance_holding-requires : goal.advance_holding-requires
+advance_holding-requires g c =
+    let ms : List Component = c.args.evaluator.now.net.prims in
+    let it : Holder = get_or c.as_slice-others.result.now c.loop-i.i (record { prim = 0; holds = holding.Packets 0 0 }) in
+    other_can_by g.C.HasCell.cell ms c.args.cells.now (signals_of c.args.wires.now) c.loop-i.invariant.0 c.as_slice-others.result.now (length ms) c.loop-i.invariant.1.0 c.requires.roomy c.requires.guarded (sym c.requires.roomy.whole)
+    c.loop-i.cells (c.loop-i.auto.cells ∙ c.loop-k.auto.cells) c.loop-i.i it (slice_get-get_or c.as_slice-others.result.now c.loop-i.i (record { prim = 0; holds = holding.Packets 0 0 }) c.loop-i-test.true) c.loop-i.invariant.1.1 c.index-cells-other.result
+
+pub loop-i-preserved : goal.loop-i-preserved
+loop-i-preserved g c =
+    let ms : List Component = c.args.evaluator.now.net.prims in
+    let it : Holder = get_or c.as_slice-others.result.now c.loop-i.i (record { prim = 0; holds = holding.Packets 0 0 }) in (
+      c.loop-i.invariant.0,
+      (
+        c.loop-i.invariant.1.0,
+        other_gone_by g.C.HasCell.cell ms c.args.cells.now (signals_of c.args.wires.now) c.loop-i.invariant.0 c.as_slice-others.result.now (length ms) c.loop-i.invariant.1.0 c.requires.roomy c.requires.guarded (sym c.requires.roomy.whole)
+            c.loop-i.cells (c.loop-i.auto.cells ∙ c.loop-k.auto.cells) c.loop-i.i it (slice_get-get_or c.as_slice-others.result.now c.loop-i.i (record { prim = 0; holds = holding.Packets 0 0 }) c.loop-i-test.true) c.loop-i.invariant.1.1 c.index-cells-other.result c.advance_holding.new.cell c.advance_holding.ensures,
+      ),
+    )
+
+pub returns : goal.returns
+returns g c =
+    let ms : List Component = c.args.evaluator.now.net.prims in
+    all_gone ms (map g.C.HasCell.cell c.args.cells.now) (signals_of c.args.wires.now) c.loop-i.invariant.0 c.as_slice-others.result.now (length ms) c.loop-i.invariant.1.0 c.requires.roomy c.requires.guarded (sym c.requires.roomy.whole)
+    (map g.C.HasCell.cell c.loop-i.cells) c.loop-i.i (same_length g.C.HasCell.cell c.loop-i.cells c.args.cells.now (c.loop-i.auto.cells ∙ c.loop-k.auto.cells)) c.loop-i-test.false refl c.loop-i.invariant.1.1
