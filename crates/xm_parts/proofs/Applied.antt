@@ -1,5 +1,5 @@
 -- The row that changes make.
-use Rattle.std.proofs.Common.{◌≡◌, ◌≢◌, ℕ, zero, suc, ◌+◌, ◌<◌, ◌≤◌, List, [], ◌∷◌, length, map, refl, ap, sym, ◌∙◌, subst, inl, inr, arith, Some, None, slice_get}
+use Rattle.std.proofs.Common.{◌≡◌, ◌≢◌, ℕ, zero, suc, ◌≤◌, List, [], ◌∷◌, length, map, refl, ap, sym, ◌∙◌, subst, inl, inr, arith, Some, None, slice_get}
 use Rattle.std.specs.Prelude.{Option, ◌⊎◌}
 use Rattle.std.proofs.lemmas.Bool.Decides.{eqb_tells}
 use Rattle.std.proofs.lemmas.List.{length-map, map-id}
@@ -12,7 +12,7 @@ use Rattle.xm_model.specs.declared.state.Wire.{Wire}
 use Rattle.xm_parts.proofs.Parting.{slice_get-found}
 use Rattle.xm_parts.proofs.Solving.{from_items}
 use Rattle.xm_parts.proofs.Stepping.{from_map, pairing}
-use Rattle.xm_parts.specs.Changing.{AllApply, AreCellChanges, AreWireChanges, CanApplyAll, HasRooms, IsApplied, IsPlainChange, WiresApply, changed, place_of, room_of}
+use Rattle.xm_parts.specs.Changing.{AllApply, AreCellChanges, AreWireChanges, CanApplyAll, HasRooms, IsApplied, IsPlainChange, WiresApply, changed, place_of}
 use Rattle.xm_parts.specs.Projection.{Row}
 use Rattle.xm_parts.specs.Rows.{cell_in, cell_or, contents_in, prim_in, prim_or, row_of}
 use Rattle.xm_parts.specs.declared.changes.CellChange.{CellChange}
@@ -49,6 +49,7 @@ shown (x ∷ xs) zero i s at = (ap first at, ap second at) where
   first : Option (ℕ × Content) → ℕ
   first None = 0
   first (Some y) = y.0
+
   second : Option (ℕ × Content) → Content
   second None = s
   second (Some y) = y.1

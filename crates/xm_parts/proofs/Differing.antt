@@ -1,12 +1,12 @@
 -- How two rows of a part differ, place by place.
-use Rattle.std.proofs.Common.{◌≡◌, ◌≢◌, ℕ, zero, suc, ◌+◌, ◌<◌, ◌≤◌, Bool, true, false, List, [], ◌∷◌, ◌++◌, length, length-append, drop, refl, ap, sym, ◌∙◌, subst, inl, inr, arith, get_or, Some, None, slice_get}
+use Rattle.std.proofs.Common.{◌≡◌, ◌≢◌, ℕ, zero, suc, ◌+◌, ◌<◌, Bool, true, false, List, [], ◌∷◌, ◌++◌, length, length-append, ap, sym, ◌∙◌, subst, inl, inr, arith, get_or, Some, None, slice_get}
 use Rattle.std.specs.Prelude.{Option}
 use Rattle.std.proofs.lemmas.Bool.{cases_lt}
 use Rattle.std.proofs.lemmas.List.{length-map}
 use Rattle.xm_model.specs.Component.{Content, content_of}
 use Rattle.xm_model.specs.declared.state.Wire.{Wire}
 use Rattle.xm_order.specs.Lemmas.Items.{get-append_left, get-push_last, push_cases}
-use Rattle.xm_parts.specs.Changing.{AreCellChanges, AreWireChanges, IsCellChange, IsChangeOfCell, IsPlainChange, IsWireChange, changed, passed, place_of}
+use Rattle.xm_parts.specs.Changing.{AreCellChanges, AreWireChanges, IsCellChange, IsChangeOfCell, IsWireChange, passed, place_of}
 use Rattle.xm_parts.specs.Rows.{contents_in}
 use Rattle.xm_parts.specs.declared.changes.CellChange.{CellChange}
 use Rattle.xm_parts.specs.declared.changes.WireChange.{WireChange}

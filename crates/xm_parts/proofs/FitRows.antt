@@ -1,8 +1,7 @@
 -- What a part has of a fitting state fits.
-use Rattle.std.proofs.Common.{◌≡◌, ℕ, List, map, ap, sym, ◌∙◌, subst, Some, slice_get}
+use Rattle.std.proofs.Common.{◌≡◌, ℕ, map, ap, sym, ◌∙◌, subst, Some, slice_get}
 use Rattle.std.proofs.lemmas.Option.{slice_get-map}
-use Rattle.xm_model.specs.Component.{Component, Content, content_of}
-use Rattle.xm_model.specs.Net.{HasPrim}
+use Rattle.xm_model.specs.Component.{Content, content_of}
 use Rattle.xm_model.specs.Next.{FitsContent}
 use Rattle.xm_parts.proofs.Stepping.{map_item}
 use Rattle.xm_parts.specs.Fitting.{FitLaw}

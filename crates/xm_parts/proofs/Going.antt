@@ -1,13 +1,12 @@
 -- A primitive that is no queue goes on by the wires of its part alone.
 use Rattle.std.proofs.Common.{◌≡◌, ℕ, zero, suc, ◌<◌, ◌++◌, false, List, [], ◌∷◌, length, map, refl, ap, sym, ◌∙◌, arith, slice_get}
 use Rattle.std.specs.Prelude.{Option}
-use Rattle.xm_model.specs.Component.{Component, Content, Source, Sink, Queue, Function, Fork, Join, Switch, Merge, component_of, content_of}
+use Rattle.xm_model.specs.Component.{Component, component_of, content_of}
 use Rattle.xm_model.specs.Views.{offer_or, ready_or, signals_of}
 use Rattle.xm_model.specs.Lemmas.Local.{IsPort, content_local}
 use Rattle.xm_model.specs.Next.{content_after}
-use Rattle.xm_model.specs.Signals.{Signals, pref_in}
+use Rattle.xm_model.specs.Signals.{Signals}
 use Rattle.xm_model.specs.declared.state.Cell.{Cell}
-use Rattle.xm_model.specs.declared.state.Cell.TheVariants as cell
 use Rattle.xm_model.specs.declared.list.List.{List as Listed}
 use Rattle.xm_model.specs.declared.primitive.Primitive.{Primitive}
 use Rattle.xm_model.specs.declared.primitive.Primitive.TheVariants as primitive

@@ -1,6 +1,7 @@
 pub mod Applied
 pub mod Building
 pub mod CellsAt
+pub mod Consecutive
 pub mod Cut
 pub mod Differing
 pub mod FarMoving

@@ -1,9 +1,7 @@
 -- Changes made one after another, each at a place of its own.
-use Rattle.std.proofs.Common.{◌≡◌, ◌≢◌, ℕ, zero, suc, ◌+◌, ◌<◌, Bool, true, false, List, [], ◌∷◌, length, map, set, refl, ap, sym, ◌∙◌, subst, inl, inr, arith, Some, None, slice_get}
-use Rattle.std.specs.Prelude.{Option, ◌⊎◌}
+use Rattle.std.proofs.Common.{◌≡◌, ◌≢◌, ℕ, ◌+◌, ◌<◌, List, length, set, ap, sym, ◌∙◌, subst, inl, inr, arith, Some, slice_get}
 use Rattle.std.proofs.lemmas.Bool.{cases_lt}
-use Rattle.std.proofs.lemmas.Bool.Decides.{eqb_tells}
-use Rattle.xm_model.specs.Component.{Content, content_of}
+use Rattle.xm_model.specs.Component.{content_of}
 use Rattle.xm_model.specs.declared.state.Cell.{Cell}
 use Rattle.xm_model.specs.declared.state.Wire.{Wire}
 use Rattle.xm_order.specs.Lemmas.Items.{get-set_other, get-set_same}

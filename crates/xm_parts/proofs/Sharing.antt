@@ -1,9 +1,8 @@
 -- Labels that share islands out are a partition.
-use Rattle.std.proofs.Common.{◌≡◌, ℕ, ◌<◌, false, ap, sym, ◌∙◌}
-use Rattle.xm_model.specs.Component.{Component}
-use Rattle.xm_model.specs.Net.{HasPrim, IsNet, Network}
+use Rattle.std.proofs.Common.{◌≡◌, ℕ, ◌<◌, ap, sym, ◌∙◌}
+use Rattle.xm_model.specs.Net.{IsNet, Network}
 use Rattle.xm_parts.proofs.Parting.{port_below}
-use Rattle.xm_parts.specs.Partition.{AreIslands, IsPartition, Linked, by, is_queue, itself}
+use Rattle.xm_parts.specs.Partition.{AreIslands, IsPartition, Linked, by, itself}
 
 module _ (net : Network) (is_net : IsNet net) (island label : ℕ → ℕ) (are : AreIslands net island) (share : ℕ → ℕ)
     (shared : (c : ℕ) → c < net.channels → label c ≡ share (island c)) where

@@ -2,16 +2,18 @@
 use Rattle.std.specs.Prelude.{◌≡◌, ◌≢◌, ℕ, ◌<◌, ◌≤◌, Bool, cond, List, length, drop, Option, Some, slice_get}
 use Rattle.xm_model.specs.Component.{Component, Content, Packets, content_of}
 use Rattle.xm_model.specs.Net.{HasPrim, Network, capacity_of}
-use Rattle.xm_model.specs.Next.{joined}
+use Rattle.xm_model.specs.Next.{IsFittingState, joined, next}
+use Rattle.xm_model.specs.Signals.{Signals}
 use Rattle.xm_model.specs.declared.state.Cell.{Cell}
 use Rattle.xm_model.specs.declared.state.Cell.TheVariants as cell
 use Rattle.xm_model.specs.declared.state.Wire.{Wire}
-use Rattle.xm_parts.specs.Projection.{Row}
-use Rattle.xm_parts.specs.Rows.{cell_in, prim_in}
+use Rattle.xm_parts.specs.Projection.{Row, projection}
+use Rattle.xm_parts.specs.Rows.{IsRoomyRow, cell_in, prim_in, row_of}
 use Rattle.xm_parts.specs.declared.changes.CellChange.{CellChange}
 use Rattle.xm_parts.specs.declared.changes.CellChange.TheVariants as change
 use Rattle.xm_parts.specs.declared.changes.Change.{Change}
 use Rattle.xm_parts.specs.declared.changes.WireChange.{WireChange}
+use Rattle.xm_parts.specs.declared.row.PartRow.{PartRow}
 use Rattle.xm_parts.specs.declared.row.PrimCell.{PrimCell}
 
 -- the packets without the oldest, if it leaves, and with the one that comes, if one comes
@@ -146,7 +148,8 @@ pub record AllApply (old new : List PrimCell) (cs : List CellChange) : Type 0 wh
 pub record WiresApply (old new : List Wire) (cs : List WireChange) : Type 0 where
   pub whole : length new ≡ length old
   pub each : ((j k : ℕ) (c d : WireChange) → slice_get cs j ≡ Some c → slice_get cs k ≡ Some d →
-      c.place ≡ d.place → j ≡ k) → (k : ℕ) (c : WireChange) → slice_get cs k ≡ Some c → slice_get new c.place ≡ Some c.wire
+      c.place ≡ d.place → j ≡ k) → (k : ℕ) (c : WireChange) → slice_get cs k ≡ Some c →
+          slice_get new c.place ≡ Some c.wire
   pub rest : (i : ℕ) → ((k : ℕ) (c : WireChange) → slice_get cs k ≡ Some c → c.place ≢ i) →
       slice_get new i ≡ slice_get old i
 
@@ -155,3 +158,21 @@ abbrev pub IsWithinCapacities : Network → Row → Type 0
 IsWithinCapacities net row =
     (k i : ℕ) (m : Component) (ps : List ℕ) → slice_get row.cells k ≡ Some (i, Packets ps) → HasPrim net i m →
     length ps ≤ capacity_of m
+
+-- what a part has of a fitting state can be changed to what it has one cycle on
+abbrev pub ChangeLaw : Type 0
+ChangeLaw =
+    (net : Network) (label : ℕ → ℕ) (p : ℕ) (s : ℕ → Content) (φ ψ : Signals) → IsFittingState net s →
+    CanChange (projection net label p s φ) (projection net label p (next net s φ) ψ)
+
+-- a roomy row has room for its change to a row within the capacities
+abbrev pub RoomLaw : Type 0
+RoomLaw =
+    (net : Network) (label : ℕ → ℕ) (p : ℕ) (row : PartRow) (new : Row) (c : Change) → IsRoomyRow net label p row →
+    IsChange (row_of row) new c → IsWithinCapacities net new → HasRooms row.cells.items c.cells.items
+
+-- what a part has of a fitting state is within the capacities
+abbrev pub CapacityLaw : Type 0
+CapacityLaw =
+    (net : Network) (label : ℕ → ℕ) (p : ℕ) (s : ℕ → Content) (φ : Signals) → IsFittingState net s →
+    IsWithinCapacities net (projection net label p s φ)

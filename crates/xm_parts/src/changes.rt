@@ -40,12 +40,7 @@ pub struct Change {
 
 impl Change {
     /// No change, with room for each cell and each wire of part `p`.
-    pub fn new(
-        alloc: Global,
-        design: &Design,
-        parts: &Parts,
-        p: u32,
-    ) -> Result<Change, OutOfMemory>
+    pub fn new(alloc: Global, design: &Design, parts: &Parts, p: u32) -> Result<Change, OutOfMemory>
         requires design { parts.now.design ≡ design.now }
         requires part { p < parts.now.count }
         ensures cells { IfOk result (λ change. length (prims_in design.now.net (label_at parts.now.labels) p)

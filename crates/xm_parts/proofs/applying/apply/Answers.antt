@@ -1,12 +1,8 @@
-use Rattle.std.proofs.Common.{◌≡◌, ◌<◌, ℕ, List, length, map, ap, sym, subst, ◌∙◌, arith, Some, slice_get}
-use Rattle.xm_model.specs.Component.{Content, Packets, content_of}
+use Rattle.std.proofs.Common.{◌≡◌, ℕ, List, length, subst, ◌∙◌, Some, slice_get}
+use Rattle.xm_model.specs.Component.{Content, Packets}
 use Rattle.xm_model.specs.Lending.{refill-full}
-use Rattle.xm_model.specs.declared.state.Wire.{Wire}
 use Rattle.xm_parts.proofs.Applied.{can_apply, contents_after, prims_kept, roomy_kept, row_made, wires_after}
-use Rattle.xm_parts.specs.Changing.{AllApply, CanApplyAll, WiresApply}
-use Rattle.xm_parts.specs.Projection.{Row}
-use Rattle.xm_parts.specs.Rows.{contents_in}
-use Rattle.xm_parts.specs.declared.row.PrimCell.{PrimCell}
+use Rattle.xm_parts.specs.Changing.{AllApply, WiresApply}
 use Rattle.xm_parts.proofs.applying.apply.Goals as goal
 
 pub apply_cells-requires : goal.apply_cells-requires

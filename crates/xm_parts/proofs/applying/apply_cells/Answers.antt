@@ -1,4 +1,4 @@
-use Rattle.std.proofs.Common.{◌≡◌, ◌<◌, ℕ, length, get_or, set, ap, subst, sym, ◌∙◌, refl, arith, slice_get, Some}
+use Rattle.std.proofs.Common.{◌≡◌, ◌<◌, ℕ, length, get_or, set, ap, subst, sym, ◌∙◌, refl, arith}
 use Rattle.std.proofs.lemmas.Option.{slice_get_read}
 use Rattle.xm_model.specs.Component.{content_of}
 use Rattle.xm_model.specs.declared.state.Cell.{Cell}
@@ -6,7 +6,6 @@ use Rattle.xm_parts.proofs.CellsAt.{cell_read, prim_read, prim_set}
 use Rattle.xm_parts.proofs.Placing.{each_more, plain_here, rest_more, room_here}
 use Rattle.xm_parts.specs.Changing.{HasRoomFor, IsApplied, IsPlainChange, place_of}
 use Rattle.xm_parts.specs.Rows.{cell_in}
-use Rattle.xm_parts.specs.declared.changes.CellChange.{CellChange}
 use Rattle.xm_parts.specs.declared.row.PrimCell.{PrimCell}
 use Rattle.xm_parts.proofs.applying.apply_cells.Goals as goal
 

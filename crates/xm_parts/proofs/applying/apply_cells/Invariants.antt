@@ -1,4 +1,4 @@
-use Rattle.std.proofs.Common.{◌≡◌, ◌≢◌, ◌<◌, ℕ, length, slice_get, Some}
+use Rattle.std.proofs.Common.{◌≡◌, ◌≢◌, ◌<◌, ℕ, slice_get, Some}
 use Rattle.xm_parts.specs.Changing.{IsApplied, place_of}
 use Rattle.xm_parts.specs.Rows.{cell_in, prim_in}
 use Rattle.xm_parts.specs.declared.changes.CellChange.{CellChange}

@@ -1,4 +1,4 @@
-use Rattle.std.proofs.Common.{◌≡◌, ◌<◌, ℕ, length, get_or, arith, slice_get, Some, None, false}
+use Rattle.std.proofs.Common.{◌<◌, length, get_or, arith, None, false}
 use Rattle.std.proofs.lemmas.Option.{slice_get-get_or, slice_get_within}
 use Rattle.xm_parts.proofs.Placing.{wire_each, wire_rest}
 use Rattle.xm_parts.specs.declared.changes.WireChange.{WireChange}

@@ -1,4 +1,4 @@
-use Rattle.std.proofs.Common.{◌≡◌, ◌≢◌, ◌<◌, ℕ, length, slice_get, Some}
+use Rattle.std.proofs.Common.{◌≡◌, ◌≢◌, ◌<◌, ℕ, slice_get, Some}
 use Rattle.xm_parts.specs.declared.changes.WireChange.{WireChange}
 use Rattle.xm_parts.proofs.applying.apply_wires.Given as goal
 

@@ -1,4 +1,4 @@
-use Rattle.std.proofs.Common.{◌≡◌, ◌<◌, ◌≤◌, ℕ, get_or, arith, sym, ◌∙◌, inl, inr, refl}
+use Rattle.std.proofs.Common.{◌≤◌, ℕ, get_or, arith, inl, inr}
 use Rattle.std.proofs.lemmas.Bool.{cases_lt}
 use Rattle.xm_parts.proofs.Splitting.{raised_below}
 use Rattle.xm_parts.proofs.balanced.island_count.Goals as goal

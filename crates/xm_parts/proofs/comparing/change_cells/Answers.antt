@@ -1,9 +1,8 @@
-use Rattle.std.proofs.Common.{◌≡◌, ◌≤◌, ◌<◌, ◌∷◌, [], ℕ, List, get_or, length, length-append, arith, ap, sym, subst, ◌∙◌, Some, slice_get}
+use Rattle.std.proofs.Common.{◌≡◌, ◌∷◌, [], ℕ, get_or, length, length-append, arith, ap, sym, ◌∙◌, Some, slice_get}
 use Rattle.xm_model.specs.Component.{Content, content_of}
 use Rattle.xm_parts.proofs.Differing.{cells_push, cells_skip, content_here, same_length}
 use Rattle.xm_parts.proofs.Stepping.{pairing}
 use Rattle.xm_parts.specs.Rows.{contents_in}
-use Rattle.xm_parts.specs.declared.row.PrimCell.{PrimCell}
 use Rattle.xm_parts.proofs.comparing.change_cells.Goals as goal
 use Rattle.xm_parts.proofs.comparing.change_cells.Goals.{in-Some, in_default}
 

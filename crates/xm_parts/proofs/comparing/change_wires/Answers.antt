@@ -1,4 +1,4 @@
-use Rattle.std.proofs.Common.{◌≡◌, ◌≢◌, ◌<◌, ◌∷◌, [], length, length-append, get_or, true, false, arith, ap, sym, ◌∙◌, slice_get, Some, None, refl}
+use Rattle.std.proofs.Common.{◌≡◌, ◌≢◌, ◌∷◌, [], length-append, get_or, false, arith, ap, sym, ◌∙◌, slice_get, Some, None, refl}
 use Rattle.xm_model.specs.declared.state.Wire.{Wire}
 use Rattle.xm_parts.proofs.Differing.{wire_differs, wire_here, wires_push, wires_skip}
 use Rattle.xm_parts.specs.declared.changes.WireChange.{WireChange}

@@ -1,4 +1,4 @@
-use Rattle.std.proofs.Common.{◌≡◌, ◌≢◌, length, false, arith}
+use Rattle.std.proofs.Common.{arith}
 use Rattle.xm_parts.proofs.Differing.{replaced}
 use Rattle.xm_parts.proofs.comparing.queue_step.Goals as goal
 

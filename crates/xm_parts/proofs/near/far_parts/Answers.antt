@@ -1,4 +1,3 @@
-use Rattle.std.proofs.Common.{◌≡◌, true, false}
 use Rattle.xm_parts.proofs.Neighbouring.{parts_push, parts_skip}
 use Rattle.xm_parts.proofs.near.far_parts.Goals as goal
 use Rattle.xm_parts.proofs.near.far_parts.Goals.{then-is_near+in_ok-push, else-is_near}

@@ -1,4 +1,4 @@
-use Rattle.std.proofs.Common.{◌≡◌, ◌<◌, ℕ, List, subst}
+use Rattle.std.proofs.Common.{◌<◌, ℕ, subst}
 use Rattle.std.proofs.lemmas.Result.{IfOk-weaker}
 use Rattle.xm_model.specs.ListView.{ListView}
 use Rattle.xm_parts.proofs.Neighbouring.{are_near, small_label}

@@ -1,4 +1,4 @@
-use Rattle.std.proofs.Common.{◌≡◌, ℕ, List, Some, length, ap, arith, slice_get}
+use Rattle.std.proofs.Common.{◌≡◌, ℕ, Some, arith, slice_get}
 use Rattle.xm_parts.specs.Given.{IsCount}
 use Rattle.xm_parts.specs.Kept.{IsPartOf, label_at}
 use Rattle.xm_parts.specs.declared.part.Part.{Part}

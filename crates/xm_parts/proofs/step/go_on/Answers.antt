@@ -1,6 +1,5 @@
-use Rattle.std.proofs.Common.{◌≡◌, false, ap}
+use Rattle.std.proofs.Common.{◌≡◌, false}
 use Rattle.xm_model.specs.Component.{component_of}
-use Rattle.xm_model.specs.declared.state.Cell.TheVariants.{Pref}
 use Rattle.xm_parts.proofs.Going.{gone_on, no_queue}
 use Rattle.xm_parts.specs.Partition.{is_queue}
 use Rattle.xm_parts.proofs.step.go_on.Goals as goal

@@ -1,4 +1,4 @@
-use Rattle.std.proofs.Common.{◌≡◌, ◌≤◌, length, ap, ◌∙◌, arith}
+use Rattle.std.proofs.Common.{length, ap, ◌∙◌, arith}
 use Rattle.xm_design.specs.Designed.{IsDesigned}
 use Rattle.xm_parts.proofs.Building.{place_few}
 use Rattle.xm_parts.proofs.Passing.{passing_length}

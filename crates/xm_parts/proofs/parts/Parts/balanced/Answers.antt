@@ -1,11 +1,8 @@
 use Rattle.std.proofs.Common.{◌≡◌, ◌<◌, ◌*◌, ◌/◌, ℕ, List, length, ap, sym, subst, ◌∙◌, arith}
 use Rattle.std.proofs.lemmas.Result.{IfOk-weaker}
-use Rattle.std.specs.Prelude.{cond, nat_lt}
-use Rattle.xm_model.specs.Net.{Network}
 use Rattle.xm_parts.proofs.Sharing.{shares_partition}
 use Rattle.xm_parts.specs.Balanced.{AreNumbered, AreShares, IsBalanced}
 use Rattle.xm_parts.specs.Kept.{Division, label_at}
-use Rattle.xm_parts.specs.Partition.{AreIslands, IsPartition}
 use Rattle.xm_parts.proofs.parts.Parts.balanced.Goals as goal
 
 pub island_count-count-requires-clause-in_order : goal.island_count-count-requires-clause-in_order

@@ -1,0 +1,105 @@
+//! Islands, balanced parts and labels that are given.
+
+ghost use Rattle.std.specs.Prelude.{◌≡◌};
+
+use super::nets::{Piece, X, design_of};
+use std::alloc::Global;
+use std::test::Fail;
+use xm_design::Design;
+use xm_model::{SinkMode, SourceMode};
+use xm_parts::{PartFault, Parts, islands};
+
+/// Four queues in a row: a net of 5 channels and 1 colour.
+const QUEUES: [Piece; 6] = [
+    Piece::Source(0, &[X], SourceMode::Keep),
+    Piece::Queue(0, 1, 1, &[]),
+    Piece::Queue(1, 2, 1, &[]),
+    Piece::Queue(2, 3, 1, &[]),
+    Piece::Queue(3, 4, 1, &[]),
+    Piece::Sink(4, SinkMode::Keep),
+];
+
+/// A switch between a source and two sinks: a net of 3 channels and 1 colour.
+const SWITCH: [Piece; 4] = [
+    Piece::Source(0, &[X], SourceMode::Keep),
+    Piece::Switch(0, 1, 2, &[false]),
+    Piece::Sink(1, SinkMode::Keep),
+    Piece::Sink(2, SinkMode::Keep),
+];
+
+/// A queue beside a function, whose two channels are linked by it: a net of 4 channels and 1 colour.
+const BYPASSED: [Piece; 5] = [
+    Piece::Source(0, &[X], SourceMode::Keep),
+    Piece::Fork(0, 1, 2, &[X], &[X]),
+    Piece::Queue(1, 3, 1, &[]),
+    Piece::Join(2, 3, 4, xm_model::Side::A),
+    Piece::Sink(4, SinkMode::Keep),
+];
+
+fn has_islands(alloc: Global, design: &Design, wanted: &[u32]) -> bool {
+    islands(alloc, design).is_ok_and(|found| found.as_slice() == wanted)
+}
+
+/// Whether the channels are in these parts.
+fn are_in(design: &Design, parts: &Parts, wanted: &[u32]) -> bool
+    requires { parts.now.design ≡ design.now }
+{
+    let count = design.net().channels();
+    if wanted.len() != count as usize {
+        return false;
+    }
+    for c in 0..count {
+        if parts.of(c) != wanted[c as usize] {
+            return false;
+        }
+    }
+    true
+}
+
+/// Whether `balanced` puts the channels into these parts, of which there are so many.
+fn balances(alloc: Global, design: &Design, most: u32, count: u32, wanted: &[u32]) -> bool {
+    if most == 0 || most > 64 {
+        return false;
+    }
+    match Parts::balanced(alloc, design, most) {
+        Ok(parts) => parts.count() == count && are_in(design, &parts, wanted),
+        Err(_) => false,
+    }
+}
+
+fn faults(alloc: Global, design: &Design, labels: &[u8], wanted: PartFault) -> bool {
+    match Parts::given(alloc, design, labels) {
+        Ok(_) => false,
+        Err(fault) => fault == wanted,
+    }
+}
+
+#[test]
+fn each_channel_between_queues_is_an_island(rt: HostRuntime) -> Result<(), Fail> {
+    let alloc = rt.alloc();
+    let design = design_of(alloc, &QUEUES, 5, 1).ok_or("no design")?;
+    assert!(rt; has_islands(alloc, &design, &[0, 1, 2, 3, 4]));
+    assert!(rt; balances(alloc, &design, 4, 4, &[0, 0, 1, 2, 3]));
+    assert!(rt; balances(alloc, &design, 64, 5, &[0, 1, 2, 3, 4]));
+    Ok(())
+}
+
+#[test]
+fn a_queue_beside_other_paths_is_in_one_island(rt: HostRuntime) -> Result<(), Fail> {
+    let alloc = rt.alloc();
+    let design = design_of(alloc, &BYPASSED, 5, 1).ok_or("no design")?;
+    assert!(rt; has_islands(alloc, &design, &[0, 0, 0, 0, 0]));
+    assert!(rt; balances(alloc, &design, 2, 1, &[0, 0, 0, 0, 0]));
+    Ok(())
+}
+
+#[test]
+fn labels_that_are_given_have_a_first_fault(rt: HostRuntime) -> Result<(), Fail> {
+    let alloc = rt.alloc();
+    let row = design_of(alloc, &QUEUES, 5, 1).ok_or("no design")?;
+    assert!(rt; faults(alloc, &row, &[0, 0, 1, 2], PartFault::Length(4)));
+    assert!(rt; faults(alloc, &row, &[0, 0, 64, 65, 3], PartFault::TooLarge(2)));
+    let switch = design_of(alloc, &SWITCH, 3, 1).ok_or("no design")?;
+    assert!(rt; faults(alloc, &switch, &[0, 1, 0], PartFault::Split(1)));
+    Ok(())
+}
