@@ -13,7 +13,8 @@ use Rattle.xm_rows.specs.Row.{SparseRow}
 -- a proof has at most one verdict, whatever order of the signals the design has
 abbrev pub OneVerdict : Type 0
 OneVerdict =
-    (it jt : Designed) (rows : List SparseRow) (p : Argument) (v w : Verdict) → it.net ≡ jt.net → it.colours ≡ jt.colours →
+    (it jt : Designed) (rows : List SparseRow) (p : Argument) (v w : Verdict) →
+    it.net ≡ jt.net → it.colours ≡ jt.colours →
     IsVerdict it rows p v → IsVerdict jt rows p w → v ≡ w
 
 -- no channel jams on a fair repeating run

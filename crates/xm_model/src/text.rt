@@ -60,7 +60,8 @@ impl Text {
         ensures ok { OnOk result (self.new.items ≡ self.old.items ++ bytes.now) }
         ensures err { OnErr result (self.new ≡ self.old) }
         ensures grows { self.old.room ≤ self.new.room }
-        ensures within { length self.old.items + length bytes.now ≤ self.old.room → IsOk result × (self.new.room ≡ self.old.room) }
+        ensures within { length self.old.items + length bytes.now ≤ self.old.room
+            → IsOk result × (self.new.room ≡ self.old.room) }
     {
         if bytes.len() > self.bytes.capacity() - self.bytes.len() {
             self.bytes.reserve(bytes.len())?;
@@ -75,7 +76,8 @@ impl Text {
         ensures ok { OnOk result (self.new.items ≡ self.old.items ++ signed_decimal number) }
         ensures err { OnErr result (self.new ≡ self.old) }
         ensures grows { self.old.room ≤ self.new.room }
-        ensures within { length self.old.items + length (signed_decimal number) ≤ self.old.room → self.new.room ≡ self.old.room }
+        ensures within { length self.old.items + length (signed_decimal number) ≤ self.old.room
+            → self.new.room ≡ self.old.room }
     {
         let digits = number.to_string(*self.bytes.allocator())?;
         self.push_bytes(digits.as_bytes())

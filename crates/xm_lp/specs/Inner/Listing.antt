@@ -18,7 +18,8 @@ pub record IsNoted (h : ℕ) (row : SparseRow) (entries : List Entry) (columns n
   pub kept : (k g : ℕ) → IsIn (noted columns k) g → IsIn (noted next k) g
   pub fresh : All (λ e. e.column < length columns → coefficient row.entries e.column ≡ pos 0 →
       IsIn (noted next e.column) h) entries
-  pub bounded : (n : ℕ) → h < n → ((k : ℕ) → All (λ g. g < n) (noted columns k)) → (k : ℕ) → All (λ g. g < n) (noted next k)
+  pub bounded : (n : ℕ) → h < n → ((k : ℕ) → All (λ g. g < n) (noted columns k))
+      → (k : ℕ) → All (λ g. g < n) (noted next k)
 
 -- so is each of these rows with an entry in the column, for the entries of row i
 pub record AreNoted (rows : List SparseRow) (column i : ℕ) (list : List ℕ) (columns next : List (List ℕ)) : Type 0 where
@@ -27,7 +28,8 @@ pub record AreNoted (rows : List SparseRow) (column i : ℕ) (list : List ℕ) (
   pub fresh : (h : ℕ) → IsIn list h → coefficient (row_at rows h).entries column ≢ pos 0 →
       All (λ e. e.column < length columns → coefficient (row_at rows h).entries e.column ≡ pos 0 →
       IsIn (noted next e.column) h) (row_at rows i).entries
-  pub bounded : ((k : ℕ) → All (λ g. g < length rows) (noted columns k)) → (k : ℕ) → All (λ g. g < length rows) (noted next k)
+  pub bounded : ((k : ℕ) → All (λ g. g < length rows) (noted columns k))
+      → (k : ℕ) → All (λ g. g < length rows) (noted next k)
 
 -- the list is what stands noted for the column, which is taken from the others
 pub record AreListedBut (column : ℕ) (list : List ℕ) (rows : List SparseRow) (columns : List (List ℕ)) : Type 0 where
