@@ -1,5 +1,5 @@
 -- Inner: a plan for the cycles of a design. No public clause cites this.
-use Rattle.std.specs.Prelude.{◌≡◌, ℕ, List, length}
+use Rattle.std.specs.Prelude.{◌≡◌, List, length}
 use Rattle.xm_design.specs.Designed.{Designed}
 use Rattle.xm_design.specs.Numbers.{IsOracles}
 use Rattle.xm_design.specs.Tasks.{AreTasks}
