@@ -353,7 +353,8 @@ fn to_a(prim: &Prim) -> &[bool]
     }
 }
 
-/// Makes the signals of one operation.
+/// Makes the signals of one operation. It is inlined in each loop over a kind, where the kind is known.
+#[inline(always)]
 fn make<C: HasCell>(
     operation: Operation,
     prims: &[Prim],
@@ -451,6 +452,7 @@ enum Kind {
     Other,
 }
 
+#[inline(always)]
 fn kind_of(operation: Operation) -> Kind {
     match operation {
         Operation::Source { .. } => Kind::Source,
