@@ -20,6 +20,7 @@ pub record IsPlanFor (it : Designed) (plan : Planned) : Type 0 where
   pub same : SameTasks tasks plan.tasks
 
 -- what an evaluator keeps beside its design
-pub record IsEvaluatorOf (it : Designed) (plan : Planned) (queues : List QueuePlace) (others : List Holder) : Type 0 where
+pub record IsEvaluatorOf
+    (it : Designed) (plan : Planned) (queues : List QueuePlace) (others : List Holder) : Type 0 where
   pub planned : IsPlanFor it plan
   pub kinds : AreKindsTo it.net.prims (length it.net.prims) queues others
