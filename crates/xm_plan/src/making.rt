@@ -110,7 +110,8 @@ fn kept_offer(colours: u32, offer: Option<u8>) -> Option<u8>
 fn plain_fork_offer(wires: &[Wire], input: u32, other: u32, colours: u32) -> Option<u8>
     requires input { input < length wires.now }
     requires other { other < length wires.now }
-    ensures { result ≡ only_if ((signals_of wires.now).ready other) (kept colours ((signals_of wires.now).offer input)) }
+    ensures { result
+        ≡ only_if ((signals_of wires.now).ready other) (kept colours ((signals_of wires.now).offer input)) }
 {
     only(
         ready_in(wires, other),
@@ -122,7 +123,8 @@ fn plain_fork_offer(wires: &[Wire], input: u32, other: u32, colours: u32) -> Opt
 fn fork_offer(wires: &[Wire], input: u32, other: u32, table: &[u8]) -> Option<u8>
     requires input { input < length wires.now }
     requires other { other < length wires.now }
-    ensures { result ≡ only_if ((signals_of wires.now).ready other) (through table.now ((signals_of wires.now).offer input)) }
+    ensures { result
+        ≡ only_if ((signals_of wires.now).ready other) (through table.now ((signals_of wires.now).offer input)) }
 {
     only(ready_in(wires, other), image(table, offer_in(wires, input)))
 }
@@ -353,7 +355,8 @@ fn to_a(prim: &Prim) -> &[bool]
     }
 }
 
-/// Makes the signals of one operation.
+/// Makes the signals of one operation. It is inlined in each loop over a kind, where the kind is known.
+#[inline(always)]
 fn make<C: HasCell>(
     operation: Operation,
     prims: &[Prim],
@@ -451,6 +454,7 @@ enum Kind {
     Other,
 }
 
+#[inline(always)]
 fn kind_of(operation: Operation) -> Kind {
     match operation {
         Operation::Source { .. } => Kind::Source,
@@ -654,7 +658,8 @@ pub fn make_all<C: HasCell>(
     requires schedule { IsSchedule (map component_of prims.now) (all_tasks operations.now) }
     requires cells { length cells.now ≡ length prims.now }
     requires choices { length choices.now ≡ length prims.now }
-    ensures settled { AreSettled (map component_of prims.now) (content_at (map C.cell cells.now)) (choice_for choices.now row.now)
+    ensures settled { AreSettled (map component_of prims.now) (content_at (map C.cell cells.now))
+        (choice_for choices.now row.now)
         (all_tasks operations.now) (signals_of wires.new) }
     ensures others { LeavesOthers (all_tasks operations.now) (signals_of wires.old) (signals_of wires.new) }
 {

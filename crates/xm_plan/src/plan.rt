@@ -203,7 +203,8 @@ impl Plan {
         requires prims { map component_of prims.now ≡ self.now.prims }
         requires cells { length cells.now ≡ length prims.now }
         requires wires { length wires.old ≡ self.now.places }
-        ensures settled { AreSettled self.now.prims (content_at (map C.cell cells.now)) (choice_for self.now.choices row.now)
+        ensures settled { AreSettled self.now.prims (content_at (map C.cell cells.now))
+            (choice_for self.now.choices row.now)
             self.now.tasks (signals_of wires.new) }
         ensures others { LeavesOthers self.now.tasks (signals_of wires.old) (signals_of wires.new) }
     {

@@ -12,7 +12,8 @@ HasRoom _ comes = Unit {0}
 
 -- the cell without the oldest packet, if one leaves, and then with the one that comes; another cell as it is
 abbrev pub passed : Cell → Option ℕ → Option ℕ → Cell
-passed (cell.Packets packets) leaves comes = cell.Packets (record packets { items = joined (left packets.items leaves) comes })
+passed (cell.Packets packets) leaves comes =
+    cell.Packets (record packets { items = joined (left packets.items leaves) comes })
 passed x leaves comes = x
 
 -- so many packets fit into a queue's cell with no growth

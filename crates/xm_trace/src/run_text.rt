@@ -145,10 +145,10 @@ impl RunText {
         rows.advance();
     }
 
-    /// Runs the cycles up to cycle `to` under the rows that follow, appends their lines, one line for each, and counts their moves, in time
-    /// that is linear in the channels, the cycles, the moves and the bytes of the lines. What the lines need beyond
-    /// their room is taken before each cycle. So after a refusal all that was lent stands as after some of the
-    /// cycles, with their lines.
+    /// Runs the cycles up to cycle `to` under the rows that follow, appends their lines, one line for each, and counts
+    /// their moves, in time that is linear in the channels, the cycles, the moves and the bytes of the lines. What the
+    /// lines need beyond their room is taken before each cycle. So after a refusal all that was lent stands as after
+    /// some of the cycles, with their lines.
     pub fn run(
         &mut self,
         alloc: Global,

@@ -1,5 +1,5 @@
 -- Inner: a plan for the cycles of a design. No public clause cites this.
-use Rattle.std.specs.Prelude.{◌≡◌, ℕ, List, length}
+use Rattle.std.specs.Prelude.{◌≡◌, List, length}
 use Rattle.xm_design.specs.Designed.{Designed}
 use Rattle.xm_design.specs.Numbers.{IsOracles}
 use Rattle.xm_design.specs.Tasks.{AreTasks}
@@ -20,6 +20,7 @@ pub record IsPlanFor (it : Designed) (plan : Planned) : Type 0 where
   pub same : SameTasks tasks plan.tasks
 
 -- what an evaluator keeps beside its design
-pub record IsEvaluatorOf (it : Designed) (plan : Planned) (queues : List QueuePlace) (others : List Holder) : Type 0 where
+pub record IsEvaluatorOf
+    (it : Designed) (plan : Planned) (queues : List QueuePlace) (others : List Holder) : Type 0 where
   pub planned : IsPlanFor it plan
   pub kinds : AreKindsTo it.net.prims (length it.net.prims) queues others

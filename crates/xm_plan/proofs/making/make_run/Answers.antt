@@ -1,4 +1,4 @@
-use Rattle.std.proofs.Common.{◌≡◌, ◌<◌, ◌∙◌, length, map, arith, subst, sym, ℕ, get_or}
+use Rattle.std.proofs.Common.{◌≡◌, ◌∙◌, length, map, arith, subst, sym, ℕ, get_or}
 use Rattle.std.proofs.lemmas.Option.{slice_get-get_or}
 use Rattle.xm_model.specs.Component.{component_of}
 use Rattle.xm_model.specs.Views.{content_at, signals_of}

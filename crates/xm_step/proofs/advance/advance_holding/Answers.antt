@@ -1,7 +1,6 @@
 use Rattle.std.proofs.Common.{ap, ap₂, refl, ◌∙◌}
 use Rattle.xm_model.specs.Next.{next_held, next_pending}
 use Rattle.xm_model.specs.declared.state.Cell.TheVariants as cell
-use Rattle.xm_model.specs.Views.{signals_of}
 use Rattle.xm_step.proofs.Going.{held_went, nothing_went, packets_went, pending_went, pref_went, queue_of}
 use Rattle.xm_step.proofs.advance.advance_holding.Goals as goal
 

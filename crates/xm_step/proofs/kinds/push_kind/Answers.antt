@@ -1,4 +1,4 @@
-use Rattle.std.proofs.Common.{refl, sym, ◌∙◌}
+use Rattle.std.proofs.Common.{refl}
 use Rattle.xm_step.proofs.Listing.{busy_told, idle_listed, idle_told, on_ok, other_listed, queue_listed, queue_told}
 use Rattle.xm_step.specs.declared.kinds.Holder.{Holder}
 use Rattle.xm_step.specs.declared.kinds.Holding.TheVariants as holding

@@ -1,4 +1,4 @@
-use Rattle.std.proofs.Common.{◌≡◌, ◌<◌, ℕ, List, Some, ap, length, map, get_or, slice_get, subst, sym, arith, ◌∙◌, length-append}
+use Rattle.std.proofs.Common.{◌≡◌, ◌<◌, ℕ, List, Some, ap, length, map, slice_get, subst, sym, arith, ◌∙◌, length-append}
 use Rattle.std.proofs.lemmas.List.{get_or_default, length-map}
 use Rattle.xm_design.specs.Lemmas.Components.{component_at}
 use Rattle.xm_model.specs.Component.{Component, component_of}
