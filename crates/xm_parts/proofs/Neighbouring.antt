@@ -1,14 +1,15 @@
 -- The parts in which the far channels of a part's cut queues lie are its neighbours.
-use Rattle.std.proofs.Common.{◌≡◌, ℕ, zero, suc, ◌+◌, ◌<◌, true, get_or, List, [], ◌∷◌, ◌++◌, length, refl, ap, sym, ◌∙◌, subst, inl, inr, arith, Some, None, slice_get}
+use Rattle.std.proofs.Common.{◌≡◌, ℕ, zero, suc, ◌+◌, ◌<◌, true, get_or, List, [], ◌∷◌, ◌++◌, length, refl, ap, sym, ◌∙◌, subst, inl, inr, arith, Some, None, slice_get, ◌≢◌, eq-eqb}
 use Rattle.std.specs.Prelude.{All, Option}
 use Rattle.std.proofs.lemmas.Bool.{cases_lt}
 use Rattle.std.proofs.lemmas.Option.{slice_get_within}
 use Rattle.xm_model.specs.Component.{Component}
-use Rattle.xm_model.specs.Net.{Network}
+use Rattle.xm_model.specs.Net.{HasPrim, IsNet, Network}
 use Rattle.xm_order.specs.Lemmas.Items.{get-append_left, get-push_last, push_cases}
-use Rattle.xm_parts.proofs.FarMoving.{some_far}
-use Rattle.xm_parts.proofs.Parting.{slice_get-found}
+use Rattle.xm_parts.proofs.FarMoving.{far_port, some_far}
+use Rattle.xm_parts.proofs.Parting.{port_below, slice_get-found}
 use Rattle.xm_parts.proofs.Passing.{passing_at, passing_from}
+use Rattle.xm_parts.proofs.Viewing.{far_outside}
 use Rattle.xm_parts.specs.Kept.{AreCutsOf}
 use Rattle.xm_parts.specs.Near.{AreNear, ArePartsOf, HasCut}
 use Rattle.xm_parts.specs.Partition.{AreNeighbours, cuts_in, far_at, far_channel, is_cut}
@@ -66,3 +67,17 @@ module _ (net : Network) (label : ℕ → ℕ) (p : ℕ) (cuts : List Cut) (are 
     near = λ k q at. neighbour q (of.near k q at);
     whole = λ q near. of.whole q (below q near) (cut_of q near);
   }
+
+-- a neighbour is one of the parts, and another one
+module _ (net : Network) (is_net : IsNet net) (label : ℕ → ℕ) (p q : ℕ) where
+  pub neighbour_below : (count : ℕ) → ((c : ℕ) → c < net.channels → label c < count) → AreNeighbours net label p q → q < count
+  neighbour_below count below near =
+      let m = slice_get-found net.prims near.queue (queue_within net label p near.queue near.far near.cut) in
+      let has : HasPrim net near.queue m.0 = m.1 in
+      let inside = port_below net is_net near.queue m.0 near.far has (far_port label p m.0 near.far (rw has at near.cut)) in
+      subst (λ (x : ℕ). x < count) near.there (below near.far inside)
+
+pub neighbour_differs : (net : Network) (label : ℕ → ℕ) (p q : ℕ) → AreNeighbours net label p q → q ≢ p
+neighbour_differs net label p q near same =
+    let outside = far_outside label p near.far (slice_get net.prims near.queue) near.cut in
+    let inside = eq-eqb (label near.far) p (near.there ∙ same) in cc

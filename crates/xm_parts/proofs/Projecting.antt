@@ -13,8 +13,11 @@ use Rattle.xm_parts.proofs.Parting.{slice_get-found}
 use Rattle.xm_parts.proofs.Solving.{from_items}
 use Rattle.xm_parts.proofs.Stepping.{from_map, map_item, pair_is}
 use Rattle.xm_parts.specs.Copied.{AreCellsOf, AreCopies, HasRoom, IsCellWith, IsCopy}
-use Rattle.xm_parts.specs.Partition.{prims_in}
+use Rattle.xm_parts.proofs.Passing.{passing_from}
+use Rattle.xm_parts.specs.Partition.{prims_in, touches_at}
 use Rattle.xm_parts.specs.Projection.{wire_of}
+use Rattle.xm_parts.specs.Rows.{FitsPart}
+use Rattle.xm_parts.specs.declared.row.PartRow.{PartRow}
 use Rattle.xm_parts.specs.declared.row.PrimCell.{PrimCell}
 use Rattle.xm_step.specs.Roomy.{IsRoomyCell}
 
@@ -125,3 +128,9 @@ pub wires_more : (channels : List ℕ) (wires made : List Wire) (k : ℕ) (d : W
 wires_more channels wires made k d below inside e =
     let here = wire_read wires (get_or channels k 0) d inside in
     rw (take_more channels k 0 below) (rw (map-append (wire_of (signals_of wires)) (take k channels) (get_or channels k 0 ∷ [])) (rw (e, here) refl))
+
+-- the primitives of a row that fits a part are the net's
+pub within_net : (net : Network) (label : ℕ → ℕ) (p : ℕ) (row : PartRow) → FitsPart net label p row → (k : ℕ) (x : PrimCell) → slice_get row.cells.items k ≡ Some x → x.prim < length net.prims
+within_net net label p row fits k x at =
+    let stands : slice_get (prims_in net label p) k ≡ Some x.prim = ap (λ (xs : List ℕ). slice_get xs k) (sym fits.prims) ∙ (rw (slice_get-map (λ (y : PrimCell). y.prim) row.cells.items k, at) refl) in
+    (passing_from (touches_at net label p) (length net.prims) k x.prim stands).below

@@ -10,7 +10,7 @@ ghost use Rattle.xm_parts.specs.Kept.{label_at};
 ghost use Rattle.xm_parts.specs.declared.row.PrimCell.{PrimCell};
 ghost use Rattle.xm_parts.specs.Partition.{channels_in, prims_in};
 ghost use Rattle.xm_parts.specs.Projection.{projection, wire_of};
-ghost use Rattle.xm_parts.specs.Rows.{IsRoomyRow, row_of};
+ghost use Rattle.xm_parts.specs.Rows.{FitsPart, IsRoomyRow, row_of};
 
 use crate::parts::Parts;
 use crate::row::{PartRow, PrimCell};
@@ -130,8 +130,7 @@ fn wires_again(alloc: Global, wires: &[Wire]) -> Result<List<Wire>, OutOfMemory>
 impl PartRow {
     /// An equal row with room for the step of its part.
     pub fn copy(&self, alloc: Global, design: &Design) -> Result<PartRow, OutOfMemory>
-        requires { (k : ℕ) (x : PrimCell) → slice_get self.now.cells.items k ≡ Some x
-            → x.prim < length design.now.net.prims }
+        requires fits { (label : ℕ → ℕ) × ((p : ℕ) × FitsPart design.now.net label p self.now) }
         ensures row { IfOk result (λ row. row_of row ≡ row_of self.now) }
         ensures roomy { (label : ℕ → ℕ) (p : ℕ) → IsRoomyRow design.now.net label p self.now
             → IfOk result (IsRoomyRow design.now.net label p) }

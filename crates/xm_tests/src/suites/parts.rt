@@ -103,3 +103,28 @@ fn labels_that_are_given_have_a_first_fault(rt: HostRuntime) -> Result<(), Fail>
     assert!(rt; faults(alloc, &switch, &[0, 1, 0], PartFault::Split(1)));
     Ok(())
 }
+
+/// The state and the frame, put together from the rows of two parts, of which one is a copy.
+fn glued(
+    alloc: Global,
+    design: &Design,
+    parts: &Parts,
+    state: &State,
+    frame: &Frame,
+) -> Result<Snapshot, OutOfMemory>
+    requires design { parts.now.design ≡ design.now }
+    requires two { parts.now.count ≡ 2 }
+    requires cells { length state.now.cells.items ≡ length design.now.net.prims }
+    requires fitting { IsFittingState design.now.net (content_at state.now.cells.items) }
+    requires wires { length frame.now.wires.items ≡ design.now.net.channels }
+{
+    fit_law();
+    let left = project(alloc, design, parts, 0, state, frame)?;
+    let right = project(alloc, design, parts, 1, state, frame)?;
+    let again = right.copy(alloc, design)?;
+    let mut glue = Glue::new(alloc, design)?;
+    glue.at(7);
+    glue.add(parts, 0, &left);
+    glue.add(parts, 1, &again);
+    Ok(glue.finish())
+}

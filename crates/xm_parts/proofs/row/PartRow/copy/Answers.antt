@@ -1,9 +1,13 @@
 use Rattle.std.proofs.Common.{◌≡◌, ap, ◌∙◌, length}
-use Rattle.xm_parts.proofs.Projecting.{copies_prims, copies_roomy, copies_same}
+use Rattle.xm_parts.proofs.Projecting.{copies_prims, copies_roomy, copies_same, within_net}
 use Rattle.xm_parts.proofs.Stepping.{rows_same}
 use Rattle.xm_parts.specs.Copied.{AreCopies}
 use Rattle.xm_parts.specs.Partition.{prims_in}
 use Rattle.xm_parts.proofs.row.PartRow.copy.Goals as goal
+
+pub copies_of-requires : goal.copies_of-requires
+copies_of-requires c k x at =
+    within_net c.args.design.now.net c.requires.fits.0 c.requires.fits.1.0 c.args.self.now c.requires.fits.1.1 k x (rw c.as_slice.ensures at at)
 
 pub returns-clause-row : goal.returns-clause-row
 returns-clause-row c =
