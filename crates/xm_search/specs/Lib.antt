@@ -1,0 +1,3 @@
+pub mod GoalOrder
+pub mod Inner
+pub mod Walk
