@@ -1,15 +1,15 @@
 //! Signals made by one operation.
 
-ghost use Rattle.std.specs.Prelude.{◌≡◌, ◌≢◌, ◌<◌, ◌≤◌, ◌&&◌, ◌||◌, [], ◌∷◌, ℕ, is_some, length, map, slice_get, take, List as Colours, Some};
+ghost use Rattle.std.specs.Prelude.{◌≡◌, ◌≢◌, ◌<◌, ◌≤◌, ◌&&◌, ◌||◌, [], ◌∷◌, ℕ, is_some, length, map, slice_get, List as Colours, Some};
 ghost use Rattle.xm_model.specs.Component.{Content, Fork, Function, Join, Merge, Queue, Sink, Source, Switch, component_of, content_of};
-ghost use Rattle.xm_model.specs.Signals.{Signals as Before, at_side, grant, granted_offer, is_a, is_b, only_if, source_offer, through, to_side_a, to_side_b};
+ghost use Rattle.xm_model.specs.Signals.{at_side, grant, granted_offer, is_a, is_b, only_if, source_offer, through, to_side_a, to_side_b};
 ghost use Rattle.xm_model.specs.Views.{choice_or, content_at, signals_of};
 ghost use Rattle.xm_model.specs.declared.primitive.SourceMode.TheVariants as source_mode;
 ghost use Rattle.xm_model.specs.declared.state.Choice.{Choice as Chosen};
 ghost use Rattle.xm_order.specs.Dependence.{channel_of};
 ghost use Rattle.xm_order.specs.Settle.{ChangesOnly};
 ghost use Rattle.xm_order.specs.declared.signal.Signal.TheVariants as signal;
-ghost use Rattle.xm_plan.specs.Inner.Made.{AreMade, AreSettledTo, IsDone};
+ghost use Rattle.xm_plan.specs.Inner.Made.{AreMade, IsDone, SettlesOn};
 ghost use Rattle.xm_plan.specs.Inner.Operations.{AllFit, FitsOperation, Keeps, all_tasks, kept, table_a_in, table_b_in, table_in, to_a_in};
 ghost use Rattle.xm_plan.specs.Planned.{choice_for};
 ghost use Rattle.xm_plan.specs.Schedule.{ArePlaced, AreSettled, IsSchedule, LeavesOthers};
@@ -505,12 +505,8 @@ fn make_run<C: HasCell>(
     requires from { from < length operations.now }
     ensures later { from < result }
     ensures within { result ≤ length operations.now }
-    ensures settled { (φ : Before) → AreSettledTo (map component_of prims.now) (content_at (map C.cell cells.now))
-        (choice_for choices.now row.now) (all_tasks operations.now) φ (length (all_tasks (take from operations.now)))
-        (signals_of wires.old)
-        → AreSettledTo (map component_of prims.now) (content_at (map C.cell cells.now))
-        (choice_for choices.now row.now) (all_tasks operations.now) φ (length (all_tasks (take result operations.now)))
-        (signals_of wires.new) }
+    ensures settled { SettlesOn (map component_of prims.now) (content_at (map C.cell cells.now))
+        (choice_for choices.now row.now) operations.now from (signals_of wires.old) result (signals_of wires.new) }
 {
     make(operations[from], prims, choices, cells, row, wires);
     let mut k = from + 1;
@@ -540,12 +536,8 @@ fn make_some<C: HasCell>(
     requires from { from < length operations.now }
     ensures later { from < result }
     ensures within { result ≤ length operations.now }
-    ensures settled { (φ : Before) → AreSettledTo (map component_of prims.now) (content_at (map C.cell cells.now))
-        (choice_for choices.now row.now) (all_tasks operations.now) φ (length (all_tasks (take from operations.now)))
-        (signals_of wires.old)
-        → AreSettledTo (map component_of prims.now) (content_at (map C.cell cells.now))
-        (choice_for choices.now row.now) (all_tasks operations.now) φ (length (all_tasks (take result operations.now)))
-        (signals_of wires.new) }
+    ensures settled { SettlesOn (map component_of prims.now) (content_at (map C.cell cells.now))
+        (choice_for choices.now row.now) operations.now from (signals_of wires.old) result (signals_of wires.new) }
 {
     match kind_of(operations[from]) {
         Kind::Source => make_run(

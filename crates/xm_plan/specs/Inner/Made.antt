@@ -1,12 +1,12 @@
 -- Inner: signals made one after another. No public clause cites these.
-use Rattle.std.specs.Prelude.{◌≡◌, ◌≢◌, ℕ, ◌<◌, List, [], ◌∷◌, Some, slice_get}
+use Rattle.std.specs.Prelude.{◌≡◌, ◌≢◌, ℕ, ◌<◌, List, [], ◌∷◌, Some, length, slice_get, take}
 use Rattle.xm_design.specs.declared.tasks.Task.{Task}
 use Rattle.xm_model.specs.Component.{Component, Content}
 use Rattle.xm_model.specs.Signals.{Signals}
 use Rattle.xm_model.specs.declared.state.Choice.{Choice}
 use Rattle.xm_order.specs.Settle.{ChangesOnly, Same}
 use Rattle.xm_order.specs.declared.signal.Signal.{Signal}
-use Rattle.xm_plan.specs.Inner.Operations.{prim_of, signals_made}
+use Rattle.xm_plan.specs.Inner.Operations.{all_tasks, prim_of, signals_made}
 use Rattle.xm_plan.specs.Schedule.{IsMadeFrom}
 use Rattle.xm_plan.specs.declared.operation.Operation.{Operation}
 
@@ -33,3 +33,10 @@ pub record AreSettledTo (prims : List Component) (s : ℕ → Content) (w : ℕ 
       slice_get prims task.prim ≡ Some m → IsMadeFrom m (s task.prim) (w task.prim) ψ ψ task.signal
   pub others : (σ : Signal) → ((k : ℕ) (task : Task) → k < n → slice_get tasks k ≡ Some task → task.signal ≢ σ) →
       Same φ ψ σ
+
+-- where the tasks of the first operations were settled, those up to another operation are
+abbrev pub SettlesOn : List Component → (ℕ → Content) → (ℕ → Choice) → List Operation → ℕ → Signals → ℕ → Signals →
+    Type 0
+SettlesOn prims s w ops from ψ to χ =
+    (φ : Signals) → AreSettledTo prims s w (all_tasks ops) φ (length (all_tasks (take from ops))) ψ →
+    AreSettledTo prims s w (all_tasks ops) φ (length (all_tasks (take to ops))) χ

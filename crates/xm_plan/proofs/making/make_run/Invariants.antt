@@ -1,9 +1,7 @@
-use Rattle.std.proofs.Common.{◌-◌, ◌≤◌, ◌<◌, length, map, take}
+use Rattle.std.proofs.Common.{◌-◌, ◌≤◌, ◌<◌, length, map}
 use Rattle.xm_model.specs.Component.{component_of}
-use Rattle.xm_model.specs.Signals.{Signals}
 use Rattle.xm_model.specs.Views.{content_at, signals_of}
-use Rattle.xm_plan.specs.Inner.Made.{AreSettledTo}
-use Rattle.xm_plan.specs.Inner.Operations.{all_tasks}
+use Rattle.xm_plan.specs.Inner.Made.{SettlesOn}
 use Rattle.xm_plan.specs.Planned.{choice_for}
 use Rattle.xm_plan.proofs.making.make_run.Given as goal
 
@@ -14,6 +12,5 @@ abbrev pub invariant-loop-k : goal.invariant-loop-k
 invariant-loop-k g l = record {
   later : l.fn.from < l.k;
   within : l.k ≤ length l.operations;
-  settled : (φ : Signals) → AreSettledTo (map component_of l.prims) (content_at (map g.C.HasCell.cell l.cells)) (choice_for l.choices l.row) (all_tasks l.operations) φ (length (all_tasks (take l.fn.from l.operations))) (signals_of l.fn.wires)
-      → AreSettledTo (map component_of l.prims) (content_at (map g.C.HasCell.cell l.cells)) (choice_for l.choices l.row) (all_tasks l.operations) φ (length (all_tasks (take l.k l.operations))) (signals_of l.wires);
+  settled : SettlesOn (map component_of l.prims) (content_at (map g.C.HasCell.cell l.cells)) (choice_for l.choices l.row) l.operations l.fn.from (signals_of l.fn.wires) l.k (signals_of l.wires);
 }
