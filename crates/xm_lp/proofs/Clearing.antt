@@ -1,12 +1,12 @@
 -- A pivot, row by row.
-use Rattle.std.proofs.Common.{◌≡◌, ◌≢◌, ℕ, ◌<◌, inl, inr, List, [], ◌∷◌, ◌++◌, length, set, refl, sym, ◌∙◌, ap, subst}
+use Rattle.std.proofs.Common.{◌≡◌, ◌≢◌, ℕ, ◌<◌, inl, inr, List, [], ◌∷◌, ◌++◌, length, set, sym, ◌∙◌, ap, subst}
 use Rattle.std.proofs.Common.{pos}
 use Rattle.std.proofs.lemmas.Bool.{cases_eq}
 use Rattle.std.proofs.lemmas.List.{get_or-set_same, get_or-set_other, length-set}
 use Rattle.xm_rows.specs.Row.{SparseRow, IsRow, coefficient}
 use Rattle.xm_rows.specs.Combination.{IsCancelled, Overflows}
 use Rattle.xm_lp.specs.Start.{row_at, no_row}
-use Rattle.xm_lp.specs.Pivot.{IsPivoted, PivotLeaves}
+use Rattle.xm_lp.specs.Pivot.{IsPivoted}
 use Rattle.xm_lp.specs.Inner.Part.{IsCleared, IsReplaced, ClearingLeaves, ArePartlyCleared, SomeLeaves}
 use Rattle.xm_lp.proofs.Basis.{mixed_by_cancel, mixed_by_keeping, zero_or_other}
 use Rattle.xm_model.specs.Membership.{IsIn}
@@ -43,9 +43,6 @@ cleared_gone old pivot new j some c =
       | inl none ↦ (mixed_by_keeping old pivot new j none (c.kept none)).gone
       | inr there ↦ (mixed_by_cancel old pivot new j some (c.cancelled there)).gone
     ]
-
-pub cleared_none : (rows : List SparseRow) (i j : ℕ) → ArePartlyCleared rows rows i j []
-cleared_none rows i j = record { count = refl; pivot = refl; done = λ g inside other. absurd inside; later = λ g not. refl }
 
 pub cleared_more : (old mid new : List SparseRow) (i j n : ℕ) (seen : List ℕ) → coefficient (row_at old i).entries j ≢ pos 0 →
     ArePartlyCleared old mid i j seen → n ≢ i → IsReplaced mid new n i j → ArePartlyCleared old new i j (seen ++ n ∷ [])
@@ -118,7 +115,3 @@ clearing_leaves old mid i j n seen some p lt other leaves =
             ),
           )
     ]
-
-pub pivot_leaves : (rows : List SparseRow) (basics : List ℕ) (i j : ℕ) → SomeLeaves rows i j →
-    PivotLeaves (record { rows = rows; basics = basics }) j i
-pivot_leaves rows basics i j s = (s.0, s.1.0, s.1.1.0, s.1.1.1.some, s.1.1.1.leaves)

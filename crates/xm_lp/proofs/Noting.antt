@@ -55,23 +55,6 @@ listed_all rows i columns past l = subst (λ (rs : List SparseRow). AreListed rs
 
 -- ---- a column's list taken out
 
-pub taken_out : (rows : List SparseRow) (column : ℕ) (list : List ℕ) (columns next : List (List ℕ)) → column < length columns →
-    list ≡ noted columns column → next ≡ set columns column [] → AreListed rows columns → AreListedBut column list rows next
-taken_out rows column list columns next below is rest l =
-    let other_list = λ (k : ℕ) (other : k ≢ column). ap (λ (c : List (List ℕ)). noted c k) rest ∙ get_or-set_other columns column k [] [] other in
-    let whole = ap length rest ∙ length-set columns column [] in
-    record {
-      own = λ h lt some. subst (λ (x : List ℕ). IsIn x h) (sym is) (l.listed h column lt below some);
-      own_bounded = subst (All (λ h. h < length rows)) (sym is) (l.bounded column);
-      listed = λ h k other lt short some. subst (λ (x : List ℕ). IsIn x h) (sym (other_list k other)) (l.listed h k lt (omega (arith, short, whole)) some);
-      bounded = λ k. elim (cases_eq k column) [
-        | inl same ↦
-            let none : noted next k ≡ [] = ap (noted next) same ∙ ap (λ (c : List (List ℕ)). noted c column) rest ∙ get_or-set_same columns column [] [] below in
-            subst (All (λ h. h < length rows)) (sym none) (All-nil (λ h. h < length rows))
-        | inr other ↦ subst (All (λ h. h < length rows)) (sym (other_list k other)) (l.bounded k)
-      ];
-    }
-
 -- ---- noting
 
 pub fresh_none : (h : ℕ) (row : SparseRow) (columns : List (List ℕ)) → IsNoted h row [] columns columns
@@ -80,16 +63,6 @@ fresh_none h row columns = record {
   kept = λ k g inside. inside;
   fresh = All-nil (λ (e : Entry). e.column < length columns → coefficient row.entries e.column ≡ pos 0 → IsIn (noted columns e.column) h);
   bounded = λ n low all. all;
-}
-
-pub fresh_passed : (h : ℕ) (row : SparseRow) (es : List Entry) (i : ℕ) (d : Entry) (columns next : List (List ℕ)) → i < length es →
-    coefficient row.entries (get_or es i d).column ≢ pos 0 → IsNoted h row (take i es) columns next → IsNoted h row (take (i + 1) es) columns next
-fresh_passed h row es i d columns next within some n = record {
-  whole = n.whole;
-  kept = n.kept;
-  fresh = All-more (λ (e : Entry). e.column < length columns → coefficient row.entries e.column ≡ pos 0 → IsIn (noted next e.column) h) es i d within n.fresh
-      (λ below none. absurd (some none));
-  bounded = n.bounded;
 }
 
 pub fresh_more : (h : ℕ) (row : SparseRow) (es : List Entry) (i : ℕ) (d : Entry) (columns next later : List (List ℕ)) → i < length es →

@@ -1,5 +1,5 @@
 -- The order of the ratio test.
-use Rattle.std.proofs.Common.{◌≡◌, ◌⊎◌, ℕ, zero, suc, ◌<◌, inl, inr, Some, None, Option, List, [], ◌∷◌, ◌++◌, length, All}
+use Rattle.std.proofs.Common.{◌≡◌, ◌⊎◌, ℕ, zero, suc, ◌<◌, inl, inr, Some, None, Option, List, [], ◌∷◌, ◌++◌, length}
 use Rattle.std.proofs.Common.{get_or, refl, sym, ◌∙◌, ap, subst, arith, pos, ℤ, ◌-ℤ◌, ◌*ℤ◌, ◌<ℤ◌, ◌≤ℤ◌, neg_ℤ}
 use Rattle.std.proofs.lemmas.Int.{ints}
 use Rattle.std.proofs.Math.IntN.{*ℤ_comm}
@@ -7,13 +7,10 @@ use Rattle.xm_rows.specs.Lemmas.Integers.{distrib, times_negated, crossed}
 use Rattle.xm_rows.specs.Row.{SparseRow}
 use Rattle.xm_lp.specs.declared.table.Ratio.{Ratio}
 use Rattle.xm_lp.specs.Start.{Tableau, row_at}
-use Rattle.xm_lp.specs.Pivot.{IsPivotRow, Precedes, entry_at, constant_at, basic_at}
-use Rattle.xm_lp.specs.Inner.Listing.{AreListed}
+use Rattle.xm_lp.specs.Pivot.{Precedes, entry_at, constant_at, basic_at}
 use Rattle.xm_lp.specs.Inner.Table.{IsRatio, IsRatioAt, IsBefore}
-use Rattle.xm_lp.proofs.Basis.{zero_or_other}
 use Rattle.xm_model.specs.Membership.{IsIn}
-use Rattle.xm_rows.specs.Columns.{noted}
-use Rattle.xm_rows.specs.Lemmas.Noting.{in_below, in_last, in_left, in_push}
+use Rattle.xm_rows.specs.Lemmas.Noting.{in_last, in_left, in_push}
 use Rattle.xm_lp.proofs.Signs.{times_up, times_positive, factor_positive, nonzero}
 use Rattle.xm_rows.specs.Lemmas.Integers.{one_factor}
 
@@ -166,31 +163,6 @@ best_taken t j i seen best ratio r h here one before others =
     rest_of (Some b) best others is = λ h some inside up.
         precedes_trans r.constant r.entry b.constant b.entry (constant_at t h) (entry_at t h j) r.basic b.basic (basic_at t h)
         is.entry best.ratio.entry up (others b refl) (best.first h some inside up)
-
--- the best of the rows that are noted for the column is that of all
-pub best_of_all : (t : Tableau) (j : ℕ) (seen : List ℕ) (columns : List (List ℕ)) (r : Ratio) → AreListed t.rows columns →
-    j < length columns → seen ≡ noted columns j → IsBest t j seen r → IsPivotRow t j r.row
-best_of_all t j seen columns r listed below is best =
-    let up = best.ratio.entry in
-    let entry = best.entry in
-    record {
-      above = best.above;
-      within = in_below (length t.rows) seen r.row (subst (All (λ h. h < length t.rows)) (sym is) (listed.bounded j)) best.among;
-      positive = omega (arith, ints);
-      first = λ h some within positive.
-          let inside = subst (λ (l : List ℕ). IsIn l h) (sym is) (listed.listed h j within below (λ none. absurd (omega (arith, ints)))) in
-          subst (λ (n : ℕ). Precedes (constant_at t r.row) (entry_at t r.row j) n (constant_at t h) (entry_at t h j) (basic_at t h)) best.basic
-          (subst (λ (z : ℤ). Precedes (constant_at t r.row) z r.basic (constant_at t h) (entry_at t h j) (basic_at t h)) best.entry
-          (subst (λ (z : ℤ). Precedes z r.entry r.basic (constant_at t h) (entry_at t h j) (basic_at t h)) best.constant (best.first h some inside positive)));
-    }
-
-pub none_of_all : (t : Tableau) (j : ℕ) (seen : List ℕ) (columns : List (List ℕ)) → AreListed t.rows columns → j < length columns →
-    seen ≡ noted columns j → IsBestOf t j seen None → (h : ℕ) → 0 < h → h < length t.rows → entry_at t h j ≤ℤ pos 0
-none_of_all t j seen columns listed below is none h some within =
-    elim (zero_or_other (entry_at t h j)) [
-      | inl nothing ↦ omega (arith, ints)
-      | inr other ↦ none h some (subst (λ (l : List ℕ). IsIn l h) (sym is) (listed.listed h j within below other))
-    ]
 
 -- the number read at an index is that of the definitions
 pub read_row : (rows : List SparseRow) (i : ℕ) (r : SparseRow) (given : List SparseRow) → given ≡ rows →

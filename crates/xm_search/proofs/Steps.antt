@@ -20,9 +20,6 @@ use Rattle.xm_search.specs.Walk.{IsLeavingOrder, Walks, done, passed}
 
 -- ---- marks
 
-pub marks_none : (marks : List Bool) → ((c : ℕ) → c < length marks → slice_index_or marks c true ≡ false) → AreMarks [] marks
-marks_none marks none = record { known = λ c below is. absurd (let not = none c below in cc); marked = λ c inside. absurd inside }
-
 pub marks_entered : (seen : List ℕ) (marks : List Bool) (c : ℕ) → AreMarks seen marks → c < length marks → AreMarks (c ∷ seen) (set marks c true)
 marks_entered seen marks c m below = record {
   known = λ d low is. elim (cases_eq c d) [
@@ -124,9 +121,6 @@ is_channel net m p x is at inside =
 
 module _ (net : Network) (is_net : IsNet net) (walk w : Walk) (over : IsOver net walk) (last p : ℕ) (m : Component) (some : 0 < length walk.path.items)
     (at : slice_get walk.path.items (length walk.path.items - 1) ≡ Some last) (target : targets net.prims last ≡ p ∷ []) (prim : slice_get net.prims p ≡ Some m) where
-  front : List ℕ
-  front = take (length walk.path.items - 1) walk.path.items
-
   turned_path : reverse walk.path.items ≡ last ∷ reverse (take (length walk.path.items - 1) walk.path.items)
   turned_path = turned walk.path.items (take (length walk.path.items - 1) walk.path.items) last (path_parts walk.path.items last some at)
 
@@ -220,14 +214,6 @@ seen_before next before root walk marks below is = record {
 }
 
 -- ---- from each channel in turn
-
-pub part_none : (next : ℕ → List ℕ) (n : ℕ) (walk : Walk) → AreMarks [] walk.seen.items → walk.left.items ≡ [] → IsPartWay next n 0 walk
-part_none next n walk marks none = record {
-  seen = [];
-  marks = marks;
-  ends = λ rest after ws. subst (λ (l : List ℕ). Walks next [] (range_with_len 0 n) (l ++ rest) after) (sym none)
-      (let e : n - 0 ≡ n = omega arith in subst (λ (k : ℕ). Walks next [] (range_with_len 0 k) rest after) e ws);
-}
 
 pub part_more : (next : ℕ → List ℕ) (n c : ℕ) (walk w : Walk) → c < n → (part : IsPartWay next n c walk) → IsWalked next part.seen c walk.left.items w →
     IsPartWay next n (c + 1) w

@@ -1,11 +1,13 @@
 //! A depth-first walk over the channels of a net, from each to those that come next behind it.
 
-ghost use Rattle.std.specs.Prelude.{◌≡◌, ◌-◌, ◌<◌, [], ◌∷◌, ◌++◌, ℕ, List as Items, IfOk, IfNone, IfSome, Some, length, take, slice_get, slice_set, slice_index_or, true};
+ghost use Rattle.std.specs.Prelude.{◌≡◌, ◌-◌, ◌<◌, [], ◌∷◌, ◌++◌, ℕ, List as Items, IfOk, IfNone, IfSome, Some};
+ghost use Rattle.std.specs.Prelude.{length, take, slice_get, slice_set, slice_index_or, true};
 ghost use Rattle.std.specs.List.{range_with_len};
 ghost use Rattle.xm_model.specs.Component.{component_of};
 ghost use Rattle.xm_model.specs.Net.{outputs};
 ghost use Rattle.xm_search.specs.GoalOrder.{onward};
-ghost use Rattle.xm_search.specs.Inner.Walking.{AreMarks, IsOver, IsPartWay, IsUnderWay, IsWalked, first_unmarked, steps_left};
+ghost use Rattle.xm_search.specs.Inner.Walking.{AreMarks, IsOver, IsPartWay, IsUnderWay};
+ghost use Rattle.xm_search.specs.Inner.Walking.{IsWalked, first_unmarked, steps_left};
 ghost use Rattle.xm_search.specs.Walk.{IsLeavingOrder};
 
 use std::alloc::Global;

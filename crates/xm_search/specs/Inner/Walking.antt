@@ -1,6 +1,7 @@
 -- How far a depth-first walk has come.
 use Rattle.std.specs.List.{range_with_len}
-use Rattle.std.specs.Prelude.{◌≡◌, ℕ, ◌+◌, ◌-◌, ◌*◌, ◌<◌, List, [], ◌∷◌, ◌++◌, Bool, true, cond, length, reverse, slice_index_or, sum_by, All, Option, Some, None}
+use Rattle.std.specs.Prelude.{◌≡◌, ℕ, ◌+◌, ◌-◌, ◌*◌, ◌<◌, List, [], ◌∷◌, ◌++◌, Bool, true}
+use Rattle.std.specs.Prelude.{cond, length, reverse, slice_index_or, sum_by, All, Option, Some, None}
 use Rattle.xm_model.specs.Membership.{IsIn}
 use Rattle.xm_model.specs.Net.{Network}
 use Rattle.xm_search.specs.Walk.{Walks}
@@ -16,8 +17,8 @@ abbrev pub first_unmarked : List Bool → List ℕ → Option ℕ
 first_unmarked marks [] = None
 first_unmarked marks (c ∷ cs) = cond (slice_index_or marks c true) (first_unmarked marks cs) (Some c)
 
--- what is left to do where the walk stands at the first of these channels, which was entered from the second, and so on:
--- the channels that come next behind each are visited, and it is left
+-- what is left to do where the walk stands at the first of these channels, which was entered from the second, and so
+-- on: the channels that come next behind each are visited, and it is left
 abbrev pub Finishes : (ℕ → List ℕ) → List ℕ → List ℕ → List ℕ → List ℕ → Type 0
 Finishes next seen [] left after = (left ≡ []) × (after ≡ seen)
 Finishes next seen (c ∷ path) left after = (inner : List ℕ) × ((between : List ℕ) × ((rest : List ℕ) ×
