@@ -1,3 +1,2 @@
 -- What private clauses cite, and no public one.
 pub mod Outputs
-pub mod Tables

@@ -4,4 +4,5 @@ pub mod Known
 pub mod Lemmas
 pub mod Numbers
 pub mod Reading
+pub mod Tables
 pub mod Views

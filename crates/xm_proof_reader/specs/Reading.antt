@@ -320,7 +320,8 @@ goal_at known path d = do
 -- ---- lemmas
 
 -- a step for each item, with its place and with what the item before gave
-abbrev pub each_after : {A B : Type 0} → (Option B → ℕ → A → Result B Path) → Option B → ℕ → List A → Result (List B) Path
+abbrev pub each_after : {A B : Type 0} → (Option B → ℕ → A → Result B Path) → Option B → ℕ → List A
+    → Result (List B) Path
 each_after f before i [] = Ok []
 each_after f before i (x ∷ xs) = do
   y ← f before i x

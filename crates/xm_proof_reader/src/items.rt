@@ -62,7 +62,8 @@ fn long_item(
     fourth: &Value,
 ) -> Result<Item, PathFault>
     ensures { Gives (λ i. i) result
-        (spec.long_item (known_of known.now) path.now (view first.now) (view second.now) (view third.now) (view fourth.now)) }
+        (spec.long_item (known_of known.now) path.now (view first.now) (view second.now) (view third.now)
+        (view fourth.now)) }
 {
     match text_at(alloc, path, first)? {
         "low" => {

@@ -4,7 +4,7 @@ ghost use Rattle.std.specs.Prelude.{◌≡◌, ℕ, List, IfOk, OnOk, Some, if�
 ghost use Rattle.std.specs.HashMap.{get_by_text};
 ghost use Rattle.std.specs.Str.{IsUtf8, bytes_eq};
 ghost use Rattle.xm_model.specs.Naming.{texts_of};
-ghost use Rattle.xm_proof_reader.specs.Inner.Tables.{IsTable};
+ghost use Rattle.xm_proof_reader.specs.Tables.{IsTable};
 ghost use Rattle.xm_proof_reader.specs.Known.{place_from};
 
 use std::alloc::Global;
