@@ -1,4 +1,4 @@
--- Inner: channels that are grouped by labels: each label is the least channel of its group. No public clause cites these.
+-- Inner: channels that are grouped by labels, each the least channel of its group. No public clause cites these.
 use Rattle.std.specs.Prelude.{◌≡◌, ℕ, ◌<◌, ◌≤◌, false, nat_eq, Bool, Option, Some, None}
 use Rattle.xm_model.specs.Component.{Component, Source, Sink, Queue, Function, Fork, Join, Switch, Merge}
 use Rattle.xm_model.specs.Net.{HasPrim, Network}
