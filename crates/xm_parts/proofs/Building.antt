@@ -12,7 +12,7 @@ use Rattle.xm_model.specs.Net.{HasPrim, IsNet, Network}
 use Rattle.xm_model.specs.Ports.{fork_output_a, fork_output_b, fork_input, function_output, function_input, join_output, join_input_a, join_input_b, merge_output, merge_input_a, merge_input_b, queue_output, queue_input, sink_input, source_output, switch_output_a, switch_output_b, switch_input}
 use Rattle.xm_parts.proofs.Parting.{port_below}
 use Rattle.xm_parts.proofs.Passing.{get-append_at, get-append_cases, get-append_left, passing_at, passing_from, passing_length, place_below}
-use Rattle.xm_parts.specs.Built.{AreCutsTo, AreRenamedTo, ArePlaces, port_read}
+use Rattle.xm_parts.specs.Inner.Built.{AreCutsTo, AreRenamedTo, ArePlaces, port_read}
 use Rattle.xm_parts.specs.Kept.{channel_place, label_at, near_place, port_place, renamed}
 use Rattle.xm_parts.specs.Partition.{far_at, is_cut, lies_in, touches_at}
 use Rattle.xm_parts.specs.Passing.{passing, place}

@@ -4,7 +4,7 @@ use Rattle.std.proofs.lemmas.Bool.Decides.{eqb_tells}
 use Rattle.xm_model.specs.Component.{Component}
 use Rattle.xm_model.specs.Signals.{Signals}
 use Rattle.xm_model.specs.declared.state.Cell.{Cell}
-use Rattle.xm_parts.specs.Going.{HasGone}
+use Rattle.xm_parts.specs.Inner.Going.{HasGone}
 use Rattle.xm_parts.specs.Rows.{cell_in, prim_in}
 use Rattle.xm_parts.specs.declared.row.PrimCell.{PrimCell}
 

@@ -11,7 +11,7 @@ use Rattle.xm_model.specs.declared.list.List.{List as Listed}
 use Rattle.xm_model.specs.declared.primitive.Primitive.{Primitive}
 use Rattle.xm_model.specs.declared.primitive.Primitive.TheVariants as primitive
 use Rattle.xm_model.specs.declared.state.Wire.{Wire}
-use Rattle.xm_parts.specs.Going.{HasGone}
+use Rattle.xm_parts.specs.Inner.Going.{HasGone}
 use Rattle.xm_step.specs.Advanced.{IsAdvanced}
 use Rattle.xm_parts.specs.Partition.{is_queue}
 use Rattle.xm_parts.specs.Rows.{far_wire, part_signals}

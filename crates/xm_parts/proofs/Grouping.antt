@@ -11,7 +11,7 @@ use Rattle.xm_model.specs.Net.{Network}
 use Rattle.xm_model.specs.Ports.{fork_output_a, fork_output_b, fork_input, function_output, function_input, join_output, join_input_a, join_input_b, merge_output, merge_input_a, merge_input_b, sink_input, source_output, switch_output_a, switch_output_b, switch_input}
 use Rattle.xm_parts.proofs.Parting.{slice_get-found}
 use Rattle.xm_parts.proofs.Passing.{passing_from, passing_length, place_once}
-use Rattle.xm_parts.specs.Grouped.{IsGrouped, JoinedAt, Keeps, is_least, three_ports}
+use Rattle.xm_parts.specs.Inner.Grouped.{IsGrouped, JoinedAt, Keeps, is_least, three_ports}
 use Rattle.xm_parts.specs.declared.islands_of.Trio.{Trio}
 use Rattle.xm_parts.specs.Partition.{AreIslands, Linked, by, is_queue, itself}
 use Rattle.xm_parts.specs.Passing.{passing, place}

@@ -13,7 +13,7 @@ use Rattle.xm_order.specs.declared.signal.Signal.TheVariants as signal
 use Rattle.xm_parts.proofs.Building.{place_read}
 use Rattle.xm_parts.proofs.Passing.{get-append_cases, passing_at}
 use Rattle.xm_parts.proofs.Touching.{touching}
-use Rattle.xm_parts.specs.Built.{ArePlaces, AreTasksTo, signal_read}
+use Rattle.xm_parts.specs.Inner.Built.{ArePlaces, AreTasksTo, signal_read}
 use Rattle.xm_parts.specs.Kept.{IsTask, channel_place, label_at, lies_at, placed}
 use Rattle.xm_parts.specs.Partition.{prims_in, touches_at}
 use Rattle.xm_parts.specs.Passing.{place}

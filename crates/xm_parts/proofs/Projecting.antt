@@ -12,7 +12,7 @@ use Rattle.xm_model.specs.declared.state.Wire.{Wire}
 use Rattle.xm_parts.proofs.Parting.{slice_get-found}
 use Rattle.xm_parts.proofs.Solving.{from_items}
 use Rattle.xm_parts.proofs.Stepping.{from_map, map_item, pair_is}
-use Rattle.xm_parts.specs.Copied.{AreCellsOf, AreCopies, HasRoom, IsCellWith, IsCopy}
+use Rattle.xm_parts.specs.Inner.Copied.{AreCellsOf, AreCopies, HasRoom, IsCellWith, IsCopy}
 use Rattle.xm_parts.proofs.Passing.{passing_from}
 use Rattle.xm_parts.specs.Partition.{prims_in, touches_at}
 use Rattle.xm_parts.specs.Projection.{wire_of}

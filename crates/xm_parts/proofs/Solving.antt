@@ -25,7 +25,7 @@ use Rattle.xm_parts.proofs.Parting.{slice_get-found}
 use Rattle.xm_parts.proofs.Passing.{passing_from, place_once}
 use Rattle.xm_parts.proofs.Renaming.{by_channel, offer_renamed, ready_renamed}
 use Rattle.xm_parts.specs.Kept.{IsPlanOf, IsTask, channel_place, near_place, port_place, renamed, signals_in}
-use Rattle.xm_parts.specs.Showing.{ShowsState}
+use Rattle.xm_parts.specs.Inner.Showing.{ShowsState}
 use Rattle.xm_parts.specs.Partition.{IsPartition, channels_in, is_cut, is_queue, lies_in, prims_in}
 use Rattle.xm_parts.specs.Passing.{place}
 use Rattle.xm_parts.specs.Projection.{wire_of}

@@ -14,9 +14,9 @@ use Rattle.xm_parts.proofs.Parting.{slice_get-found}
 use Rattle.xm_parts.proofs.Passing.{passing_from}
 use Rattle.xm_parts.proofs.Solving.{from_items}
 use Rattle.xm_parts.proofs.Viewing.{content_here, own_here, place_here, roomy_from, roomy_renamed}
-use Rattle.xm_parts.specs.Going.{AllGoOn, CanGoOn, HasPlace}
+use Rattle.xm_parts.specs.Inner.Going.{AllGoOn, CanGoOn, HasPlace}
 use Rattle.xm_parts.specs.Kept.{AreLocalsOf, port_place, renamed}
-use Rattle.xm_parts.specs.Showing.{ShowsState}
+use Rattle.xm_parts.specs.Inner.Showing.{ShowsState}
 use Rattle.xm_parts.specs.Partition.{IsPartition, channels_in, is_queue, prims_in, touches_at}
 use Rattle.xm_parts.specs.Projection.{IsCycle, Row, projection, wire_of}
 use Rattle.xm_parts.specs.Rows.{FitsPart, IsRoomyRow, cell_in, cell_or, part_signals, prim_or, row_of}

@@ -23,7 +23,7 @@ use Rattle.xm_parts.proofs.Passing.{passing_at, passing_length, place_below}
 use Rattle.xm_parts.proofs.Renaming.{content_renamed, queue_renamed}
 use Rattle.xm_parts.proofs.Solving.{port_own}
 use Rattle.xm_parts.proofs.Touching.{all_lie, input_end, out_end}
-use Rattle.xm_parts.specs.Going.{HasPlace}
+use Rattle.xm_parts.specs.Inner.Going.{HasPlace}
 use Rattle.xm_parts.specs.Kept.{channel_place, port_place, renamed}
 use Rattle.xm_parts.specs.Partition.{IsPartition, channels_in, cuts_in, far_at, far_channel, is_cut, is_queue, lies_in, outer, touches_at}
 use Rattle.xm_parts.specs.Passing.{place}

@@ -149,7 +149,7 @@ pub record WiresApply (old new : List Wire) (cs : List WireChange) : Type 0 wher
   pub whole : length new ≡ length old
   pub each : ((j k : ℕ) (c d : WireChange) → slice_get cs j ≡ Some c → slice_get cs k ≡ Some d →
       c.place ≡ d.place → j ≡ k) → (k : ℕ) (c : WireChange) → slice_get cs k ≡ Some c →
-          slice_get new c.place ≡ Some c.wire
+      slice_get new c.place ≡ Some c.wire
   pub rest : (i : ℕ) → ((k : ℕ) (c : WireChange) → slice_get cs k ≡ Some c → c.place ≢ i) →
       slice_get new i ≡ slice_get old i
 

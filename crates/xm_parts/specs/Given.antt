@@ -1,10 +1,9 @@
 -- The first fault of labels that are given.
 use Rattle.std.specs.Prelude.{◌≡◌, ◌≢◌, ◌&&◌, ℕ, suc, ◌<◌, ◌≤◌, Bool, true, false, nat_eq, List, length}
 use Rattle.xm_model.specs.Component.{Component, Source, Sink, Queue, Function, Fork, Join, Switch, Merge}
-use Rattle.xm_model.specs.Lemmas.Local.{IsPort}
 use Rattle.xm_model.specs.Net.{HasPrim, Network}
 use Rattle.xm_parts.specs.Kept.{label_at}
-use Rattle.xm_parts.specs.Partition.{is_queue}
+use Rattle.xm_parts.specs.Partition.{IsPort, is_queue}
 
 -- the primitive is a queue, or its channels have one label
 abbrev pub IsTogether : (ℕ → ℕ) → Component → Type 0

@@ -1,13 +1,10 @@
 pub mod Balanced
-pub mod Built
 pub mod Changing
-pub mod Copied
 pub mod Far
 pub mod Fitting
 pub mod Given
 pub mod Gluing
-pub mod Going
-pub mod Grouped
+pub mod Inner
 pub mod Kept
 pub mod Near
 pub mod PartLaw
@@ -15,4 +12,3 @@ pub mod Partition
 pub mod Passing
 pub mod Projection
 pub mod Rows
-pub mod Showing

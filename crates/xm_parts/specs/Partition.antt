@@ -1,8 +1,8 @@
 -- Partitions of a net's channels, and which primitives and channels a part has.
-use Rattle.std.specs.Prelude.{◌≡◌, ℕ, ◌<◌, Bool, true, false, ◌||◌, nat_eq, List, [], ◌∷◌, ◌++◌, length, Option, Some, None, is_some, slice_get}
+use Rattle.std.specs.Prelude.{◌≡◌, ◌⊎◌, ℕ, ◌<◌, Bool, true, false, ◌||◌, nat_eq, List, [], ◌∷◌, ◌++◌, length, Option, Some, None, is_some, slice_get}
 use Rattle.xm_model.specs.Component.{Component, Source, Sink, Queue, Function, Fork, Join, Switch, Merge}
-use Rattle.xm_model.specs.Lemmas.Local.{IsPort}
 use Rattle.xm_model.specs.Net.{HasPrim, Network, inputs, outputs}
+use Rattle.xm_model.specs.Ports.{HasInput, HasOutput}
 use Rattle.xm_parts.specs.Passing.{passing}
 
 abbrev pub is_queue : Component → Bool
@@ -14,6 +14,10 @@ is_queue (Fork input a b table_a table_b) = false
 is_queue (Join a b out pass) = false
 is_queue (Switch input a b to_a) = false
 is_queue (Merge a b out) = false
+
+-- the channel is at one of the primitive's ports
+abbrev pub IsPort : Component → ℕ → Type 0
+IsPort m c = HasOutput m c ⊎ HasInput m c
 
 -- each channel has a label, and the channels of a primitive that is no queue have the same
 pub record IsPartition (net : Network) (label : ℕ → ℕ) : Type 0 where

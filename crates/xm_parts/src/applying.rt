@@ -77,8 +77,8 @@ fn apply_wires(changes: &[WireChange], wires: &mut [Wire])
     }
 }
 
-/// Makes a row the newer one, of which `change` tells what differs. The time is linear in what differs, and no memory is
-/// taken.
+/// Makes a row the newer one, of which `change` tells what differs. The time is linear in what differs, and no memory
+/// is taken.
 pub fn apply(row: &mut PartRow, change: &Change)
     requires change { (new : Row) × IsChange (row_of row.old) new change.now }
     requires rooms { HasRooms row.old.cells.items change.now.cells.items }

@@ -8,7 +8,7 @@ ghost use Rattle.xm_order.specs.Dependence.{channel_of};
 ghost use Rattle.xm_parts.specs.Passing.{place};
 ghost use Rattle.xm_parts.specs.declared.part.Part.{Part};
 ghost use Rattle.xm_model.specs.Component.{component_of};
-ghost use Rattle.xm_parts.specs.Built.{ArePlaces, port_read, signal_read};
+ghost use Rattle.xm_parts.specs.Inner.Built.{ArePlaces, port_read, signal_read};
 ghost use Rattle.xm_model.specs.Views.{oracles_below};
 ghost use Rattle.xm_parts.specs.Kept.{AreCutsOf, AreLocalsOf, AreRenamed, AreTasksOf, IsPartOf, IsPlanOf, label_at, near_place, renamed};
 ghost use Rattle.xm_parts.specs.Partition.{IsPartition, channels_in, cuts_in, far_channel, prims_in, touches, touches_at};

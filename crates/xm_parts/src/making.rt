@@ -5,7 +5,7 @@ ghost use Rattle.xm_model.specs.Component.{component_of, content_of};
 ghost use Rattle.xm_model.specs.Views.{content_at, signals_of};
 ghost use Rattle.xm_model.specs.Net.{capacity_of};
 ghost use Rattle.xm_model.specs.Next.{IsFittingState};
-ghost use Rattle.xm_parts.specs.Copied.{AreCellsOf, AreCopies, IsCopy};
+ghost use Rattle.xm_parts.specs.Inner.Copied.{AreCellsOf, AreCopies, IsCopy};
 ghost use Rattle.xm_parts.specs.Kept.{label_at};
 ghost use Rattle.xm_parts.specs.declared.row.PrimCell.{PrimCell};
 ghost use Rattle.xm_parts.specs.Partition.{channels_in, prims_in};

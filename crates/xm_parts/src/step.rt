@@ -4,13 +4,12 @@ ghost use Rattle.std.specs.Prelude.{◌≡◌, ◌<◌, ◌≤◌, ℕ, false, l
 ghost use Rattle.xm_model.specs.Component.{Content, component_of, content_of};
 ghost use Rattle.xm_model.specs.Frame.{IsFrame};
 ghost use Rattle.xm_model.specs.Views.{choice_at};
-ghost use Rattle.xm_model.specs.Lemmas.Local.{IsPort};
 ghost use Rattle.xm_model.specs.Next.{content_after, move, next};
-ghost use Rattle.xm_parts.specs.Going.{AllGoOn, CanGoOn, HasGone, HasPlace};
+ghost use Rattle.xm_parts.specs.Inner.Going.{AllGoOn, CanGoOn, HasGone, HasPlace};
 ghost use Rattle.xm_model.specs.Signals.{Signals, packets_in};
 ghost use Rattle.xm_parts.specs.Kept.{label_at};
-ghost use Rattle.xm_parts.specs.Showing.{ShowsState};
-ghost use Rattle.xm_parts.specs.Partition.{channels_in, is_queue, prims_in};
+ghost use Rattle.xm_parts.specs.Inner.Showing.{ShowsState};
+ghost use Rattle.xm_parts.specs.Partition.{IsPort, channels_in, is_queue, prims_in};
 ghost use Rattle.xm_parts.specs.Projection.{IsCycle, projection, wire_of};
 ghost use Rattle.xm_parts.specs.Rows.{IsRoomyRow, cell_in, part_signals, row_of};
 ghost use Rattle.xm_step.specs.Roomy.{IsRoomyCell};

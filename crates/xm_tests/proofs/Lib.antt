@@ -1,2 +1,3 @@
-pub mod Within
+mod Halving
 mod Over
+pub mod Within

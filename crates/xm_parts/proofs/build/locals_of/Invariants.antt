@@ -1,6 +1,6 @@
 use Rattle.std.proofs.Common.{◌≡◌, ◌+◌, map}
 use Rattle.xm_model.specs.Component.{component_of}
-use Rattle.xm_parts.specs.Built.{AreRenamedTo}
+use Rattle.xm_parts.specs.Inner.Built.{AreRenamedTo}
 use Rattle.xm_parts.specs.Kept.{label_at, port_place}
 use Rattle.xm_parts.specs.Partition.{is_cut}
 use Rattle.xm_parts.specs.Passing.{place}

@@ -1,6 +1,6 @@
 use Rattle.std.proofs.Common.{map}
 use Rattle.xm_model.specs.Component.{component_of}
-use Rattle.xm_parts.specs.Built.{AreRenamedTo}
+use Rattle.xm_parts.specs.Inner.Built.{AreRenamedTo}
 use Rattle.xm_parts.specs.Kept.{label_at, near_place}
 use Rattle.xm_parts.proofs.build.planned_of.Given as goal
 

@@ -6,7 +6,7 @@ use Rattle.xm_model.specs.Component.{component_of}
 use Rattle.xm_model.specs.Lending.{refill-full}
 use Rattle.xm_parts.proofs.Grouping.{alone, numbered}
 use Rattle.xm_parts.proofs.Parting.{port_below}
-use Rattle.xm_parts.specs.Grouped.{is_least}
+use Rattle.xm_parts.specs.Inner.Grouped.{is_least}
 use Rattle.xm_parts.specs.Kept.{label_at}
 use Rattle.xm_parts.specs.Passing.{place}
 use Rattle.xm_parts.proofs.islands_of.islands.Goals as goal

@@ -2,7 +2,7 @@ use Rattle.std.proofs.Common.{length-append, get_or, ap, ◌∙◌, arith}
 use Rattle.std.specs.Prelude.{cond}
 use Rattle.xm_parts.proofs.Building.{place_few, place_on}
 use Rattle.xm_parts.proofs.Grouping.{number_more, numbers_push}
-use Rattle.xm_parts.specs.Grouped.{is_least}
+use Rattle.xm_parts.specs.Inner.Grouped.{is_least}
 use Rattle.xm_parts.specs.Kept.{label_at}
 use Rattle.xm_parts.proofs.islands_of.numbers.Goals as goal
 

@@ -1,5 +1,5 @@
 use Rattle.std.proofs.Common.{◌≡◌, ◌<◌, ℕ, length, get_or}
-use Rattle.xm_parts.specs.Grouped.{is_least}
+use Rattle.xm_parts.specs.Inner.Grouped.{is_least}
 use Rattle.xm_parts.specs.Kept.{label_at}
 use Rattle.xm_parts.specs.Passing.{place}
 use Rattle.xm_parts.proofs.islands_of.numbers.Given as goal

@@ -7,7 +7,7 @@ use Rattle.xm_model.specs.Net.{HasPrim}
 use Rattle.xm_model.specs.declared.state.Cell.{Cell}
 use Rattle.xm_parts.proofs.Projecting.{content_read, made_cell}
 use Rattle.xm_parts.proofs.Pushing.{push_each}
-use Rattle.xm_parts.specs.Copied.{IsCellWith}
+use Rattle.xm_parts.specs.Inner.Copied.{IsCellWith}
 use Rattle.xm_parts.specs.declared.row.PrimCell.{PrimCell}
 use Rattle.xm_parts.proofs.making.cells_of.Goals as goal
 

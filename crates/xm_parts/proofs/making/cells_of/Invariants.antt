@@ -1,6 +1,6 @@
 use Rattle.std.proofs.Common.{◌≡◌, ℕ, length, Some, slice_get}
 use Rattle.xm_model.specs.Views.{content_at}
-use Rattle.xm_parts.specs.Copied.{IsCellWith}
+use Rattle.xm_parts.specs.Inner.Copied.{IsCellWith}
 use Rattle.xm_parts.specs.declared.row.PrimCell.{PrimCell}
 use Rattle.xm_parts.proofs.making.cells_of.Given as goal
 

@@ -4,7 +4,7 @@ use Rattle.xm_model.specs.Component.{component_of, content_of}
 use Rattle.xm_model.specs.Net.{HasPrim}
 use Rattle.xm_parts.proofs.Projecting.{made_cell}
 use Rattle.xm_parts.proofs.Pushing.{push_each}
-use Rattle.xm_parts.specs.Copied.{IsCellWith}
+use Rattle.xm_parts.specs.Inner.Copied.{IsCellWith}
 use Rattle.xm_parts.specs.declared.row.PrimCell.{PrimCell}
 use Rattle.xm_parts.proofs.making.copies_of.Goals as goal
 

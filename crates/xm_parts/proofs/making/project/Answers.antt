@@ -5,7 +5,7 @@ use Rattle.xm_model.specs.Views.{content_at, signals_of}
 use Rattle.xm_parts.proofs.Passing.{passing_from}
 use Rattle.xm_parts.proofs.Projecting.{cells_made, prims_made, roomy_made}
 use Rattle.xm_parts.proofs.Stepping.{row_is}
-use Rattle.xm_parts.specs.Copied.{AreCellsOf}
+use Rattle.xm_parts.specs.Inner.Copied.{AreCellsOf}
 use Rattle.xm_parts.specs.Kept.{label_at}
 use Rattle.xm_parts.specs.Partition.{channels_in, lies_in, prims_in, touches_at}
 use Rattle.xm_parts.specs.Projection.{wire_of}

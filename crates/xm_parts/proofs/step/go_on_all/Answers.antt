@@ -4,7 +4,7 @@ use Rattle.std.proofs.lemmas.Option.{slice_get-map, slice_get_read, slice_get_wi
 use Rattle.xm_model.specs.Component.{component_of}
 use Rattle.xm_model.specs.declared.state.Cell.{Cell}
 use Rattle.xm_parts.proofs.CellsAt.{cell_read, cell_set_other, gone_more, prim_read, prim_set}
-use Rattle.xm_parts.specs.Going.{HasGone, HasPlace}
+use Rattle.xm_parts.specs.Inner.Going.{HasGone, HasPlace}
 use Rattle.xm_parts.specs.Rows.{cell_in, part_signals}
 use Rattle.xm_step.specs.Roomy.{IsRoomyCell}
 use Rattle.xm_parts.proofs.step.go_on_all.Goals as goal

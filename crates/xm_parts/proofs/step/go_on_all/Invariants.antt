@@ -1,6 +1,6 @@
 use Rattle.std.proofs.Common.{◌≡◌, ◌<◌, ◌≤◌, ℕ, map, Some, slice_get}
 use Rattle.xm_model.specs.Component.{Component, component_of}
-use Rattle.xm_parts.specs.Going.{HasGone}
+use Rattle.xm_parts.specs.Inner.Going.{HasGone}
 use Rattle.xm_parts.specs.Rows.{cell_in, part_signals, prim_in}
 use Rattle.xm_parts.proofs.step.go_on_all.Given as goal
 

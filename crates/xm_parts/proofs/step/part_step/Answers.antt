@@ -3,9 +3,9 @@ use Rattle.xm_model.specs.Component.{component_of}
 use Rattle.xm_model.specs.Lending.{refill-full}
 use Rattle.xm_model.specs.Next.{next}
 use Rattle.xm_parts.proofs.Stepping.{can_go, cells_after, prims_after, roomy_after, row_is, shows_next}
-use Rattle.xm_parts.specs.Going.{AllGoOn}
+use Rattle.xm_parts.specs.Inner.Going.{AllGoOn}
 use Rattle.xm_parts.specs.Kept.{AreLocalsOf, label_at}
-use Rattle.xm_parts.specs.Showing.{ShowsState}
+use Rattle.xm_parts.specs.Inner.Showing.{ShowsState}
 use Rattle.xm_parts.specs.Partition.{IsPartition, channels_in}
 use Rattle.xm_parts.specs.Projection.{wire_of}
 use Rattle.xm_parts.specs.Rows.{part_signals}

@@ -1,4 +1,3 @@
-use Rattle.std.proofs.Common.{◌≡◌, ◌<◌, ℕ, subst}
 use Rattle.xm_parts.proofs.Neighbouring.{neighbour_below, neighbour_differs}
 use Rattle.xm_parts.specs.Kept.{label_at}
 use Rattle.xm_parts.proofs.parts.Parts.neighbours.Goals as goal

@@ -1,7 +1,7 @@
 use Rattle.std.proofs.Common.{◌≡◌, ap, ◌∙◌, length}
 use Rattle.xm_parts.proofs.Projecting.{copies_prims, copies_roomy, copies_same, within_net}
 use Rattle.xm_parts.proofs.Stepping.{rows_same}
-use Rattle.xm_parts.specs.Copied.{AreCopies}
+use Rattle.xm_parts.specs.Inner.Copied.{AreCopies}
 use Rattle.xm_parts.specs.Partition.{prims_in}
 use Rattle.xm_parts.proofs.row.PartRow.copy.Goals as goal
 

@@ -1,4 +1,4 @@
--- Lists that are built one number after another for a part.
+-- Inner: lists that are built one number after another for a part. No public clause cites these.
 use Rattle.std.specs.Prelude.{◌≡◌, ℕ, ◌<◌, cond, List, filter, length, take, Some, slice_get, slice_index}
 use Rattle.xm_model.specs.Component.{Component}
 use Rattle.xm_model.specs.Net.{HasPrim, Network}

@@ -1,9 +1,8 @@
--- Channels that are grouped by labels: each label is the least channel of its group.
+-- Inner: channels that are grouped by labels, each the least channel of its group. No public clause cites these.
 use Rattle.std.specs.Prelude.{◌≡◌, ℕ, ◌<◌, ◌≤◌, false, nat_eq, Bool, Option, Some, None}
 use Rattle.xm_model.specs.Component.{Component, Source, Sink, Queue, Function, Fork, Join, Switch, Merge}
 use Rattle.xm_model.specs.Net.{HasPrim, Network}
-use Rattle.xm_model.specs.Lemmas.Local.{IsPort}
-use Rattle.xm_parts.specs.Partition.{Linked, is_queue}
+use Rattle.xm_parts.specs.Partition.{IsPort, Linked, is_queue}
 use Rattle.xm_parts.specs.declared.islands_of.Trio.{Trio}
 
 -- channels with one label are linked, and a label is a channel of its group, the least

@@ -1,11 +1,10 @@
--- How the cells of a part's row go on.
+-- Inner: how the cells of a part's row go on. No public clause cites these.
 use Rattle.std.specs.Prelude.{◌≡◌, ◌<◌, ℕ, false, List, length, Some, slice_get}
 use Rattle.xm_model.specs.Component.{Component, Queue, content_of}
-use Rattle.xm_model.specs.Lemmas.Local.{IsPort}
 use Rattle.xm_model.specs.Next.{content_after, move}
 use Rattle.xm_model.specs.Signals.{Signals, packets_in}
 use Rattle.xm_model.specs.declared.state.Cell.{Cell}
-use Rattle.xm_parts.specs.Partition.{is_queue}
+use Rattle.xm_parts.specs.Partition.{IsPort, is_queue}
 use Rattle.xm_parts.specs.Rows.{cell_in, prim_in}
 use Rattle.xm_parts.specs.declared.row.PrimCell.{PrimCell}
 use Rattle.xm_step.specs.Roomy.{IsRoomyCell}

@@ -1,4 +1,4 @@
--- Cells that were copied with room for a capacity.
+-- Inner: cells that were copied with room for a capacity. No public clause cites these.
 use Rattle.std.specs.Prelude.{◌≡◌, ◌≤◌, ℕ, List, length, Some, slice_get}
 use Rattle.xm_model.specs.Component.{Component, Content, content_of}
 use Rattle.xm_model.specs.Views.{content_at}

@@ -1,4 +1,4 @@
--- The state that the cells of a part show.
+-- Inner: the state that the cells of a part show. No public clause cites these.
 use Rattle.std.specs.Prelude.{◌≡◌, ℕ, List, Some, slice_get}
 use Rattle.xm_model.specs.Component.{Content, content_of}
 use Rattle.xm_model.specs.Net.{Network}
