@@ -34,7 +34,7 @@ module _ (c : Core) (whole : IsWhole c) (p : ℕ) (part : p < c.count) where
   set_whole o = length-set c.out p o ∙ whole.out
 
   posted_whole : IsWhole (posted c p)
-  posted_whole = record { neighbours = whole.neighbours; cycles = length-set c.cycles p (suc (cycle c p)) ∙ whole.cycles; out = set_whole false }
+  posted_whole = record { few = whole.few; neighbours = whole.neighbours; cycles = length-set c.cycles p (suc (cycle c p)) ∙ whole.cycles; out = set_whole false }
 
 none_out : (out : List Bool) (p : ℕ) → slice_index_or (map (λ o. false) out) p false ≡ false
 none_out [] p = refl
@@ -85,9 +85,9 @@ none_of c p inside (j ∷ js) f =
 
 -- ---- the core after each step
 
-after_take : (c : Core) (p : ℕ) → IsReady c p → IsCore c → IsCore (taken c p)
+pub after_take : (c : Core) (p : ℕ) → IsReady c p → IsCore c → IsCore (taken c p)
 after_take c p ready k = record {
-  whole = record { neighbours = k.whole.neighbours; cycles = k.whole.cycles; out = set_whole c k.whole p ready.part true };
+  whole = record { few = k.whole.few; neighbours = k.whole.neighbours; cycles = k.whole.cycles; out = set_whole c k.whole p ready.part true };
   both_ways = k.both_ways;
   below = k.below;
   close = k.close;
@@ -104,9 +104,9 @@ after_take c p ready k = record {
   round = k.round;
 }
 
-after_in : (c : Core) (p : ℕ) → p < c.count → IsCore c → IsCore (given_back c p)
+pub after_in : (c : Core) (p : ℕ) → p < c.count → IsCore c → IsCore (given_back c p)
 after_in c p inside k = record {
-  whole = record { neighbours = k.whole.neighbours; cycles = k.whole.cycles; out = set_whole c k.whole p inside false };
+  whole = record { few = k.whole.few; neighbours = k.whole.neighbours; cycles = k.whole.cycles; out = set_whole c k.whole p inside false };
   both_ways = k.both_ways;
   below = k.below;
   close = k.close;
@@ -115,7 +115,7 @@ after_in c p inside k = record {
   round = k.round;
 }
 
-after_post : (c : Core) (p : ℕ) → p < c.count → is_out c p ≡ true → IsCore c → IsCore (posted c p)
+pub after_post : (c : Core) (p : ℕ) → p < c.count → is_out c p ≡ true → IsCore c → IsCore (posted c p)
 after_post c p inside out k = record {
   whole = posted_whole c k.whole p inside;
   both_ways = k.both_ways;
@@ -153,9 +153,9 @@ rises c p q whole inside =
       | inr t ↦ (let n = cycle_elsewhere c whole p inside q t.1 in omega arith)
     ]
 
-after_recall : (c : Core) → IsCore c → IsCore (recalled c)
+pub after_recall : (c : Core) → IsCore c → IsCore (recalled c)
 after_recall c k = record {
-  whole = record { neighbours = k.whole.neighbours; cycles = k.whole.cycles; out = length-map c.out (λ (o : Bool). false) ∙ k.whole.out };
+  whole = record { few = k.whole.few; neighbours = k.whole.neighbours; cycles = k.whole.cycles; out = length-map c.out (λ (o : Bool). false) ∙ k.whole.out };
   both_ways = k.both_ways;
   below = k.below;
   close = k.close;
@@ -202,7 +202,7 @@ after_round c target all above within js b =
     let k = b.core in
     record {
       core = record {
-        whole = record { neighbours = k.whole.neighbours; cycles = k.whole.cycles; out = k.whole.out };
+        whole = record { few = k.whole.few; neighbours = k.whole.neighbours; cycles = k.whole.cycles; out = k.whole.out };
         both_ways = k.both_ways;
         below = λ p part. (let e = all p part in omega arith);
         close = k.close;
@@ -256,7 +256,7 @@ kept {c} {d = e} {js = js} {ls = ls} (stop r) b =
     let k = b.core in
     stays c (stopped c) e ls refl refl (kept r (record {
       core = record {
-        whole = record { neighbours = k.whole.neighbours; cycles = k.whole.cycles; out = k.whole.out };
+        whole = record { few = k.whole.few; neighbours = k.whole.neighbours; cycles = k.whole.cycles; out = k.whole.out };
         both_ways = k.both_ways;
         below = k.below;
         close = k.close;

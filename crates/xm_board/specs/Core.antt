@@ -24,8 +24,9 @@ is_out c p = slice_index_or c.out p false
 abbrev pub is_near : Core → ℕ → ℕ → Bool
 is_near c p q = list_any (nat_eq q) (slice_index_or c.neighbours p [])
 
--- there is a cycle for each part, and whether it is out
+-- there are at most 64 parts, and for each its neighbours, its cycle, and whether it is out
 pub record IsWhole (c : Core) : Type 0 where
+  pub few : c.count ≤ 64
   pub neighbours : length c.neighbours ≡ c.count
   pub cycles : length c.cycles ≡ c.count
   pub out : length c.out ≡ c.count
@@ -59,6 +60,10 @@ pub record IsLeastOut (c : Core) (p : ℕ) : Type 0 where
   pub part : p < c.count
   pub out : is_out c p ≡ true
   pub least : (q : ℕ) → q < c.count → is_out c q ≡ true → p ≤ q
+
+-- no part may be handed out
+abbrev pub NoneReady : Core → Type 0
+NoneReady c = (p : ℕ) → IsReady c p → ⊥
 
 abbrev pub AllDone : Core → Type 0
 AllDone c = (p : ℕ) → p < c.count → cycle c p ≡ c.target

@@ -1,0 +1,174 @@
+//! How far each part is, and which are out with workers.
+
+ghost use Rattle.std.specs.Prelude.{◌≡◌, ◌<◌, ◌≤◌, [], map, slice_get, slice_index_or};
+
+use std::marker::Model;
+use xm_model::List;
+
+/// What a take answers: the part that is handed out, or the least part that is out where none can be.
+#[derive(Clone, Copy, PartialEq, Eq, Debug)]
+pub enum Choice {
+    Stopped,
+    Finished,
+    Job(u32),
+    NotYet(u32),
+}
+
+/// The parts with their neighbours, their cycles, and whether they are out; whether the board was stopped, the first
+/// cycle of its round and the target.
+#[derive(Drop)]
+pub struct BoardCore {
+    neighbours: List<List<u32>>,
+    cycles: List<u32>,
+    out: List<bool>,
+    stopped: bool,
+    first: u32,
+    target: u32,
+}
+
+impl Model for BoardCore {
+    ghost use Rattle.std.specs.Prelude.{length, map, ℕ};
+    ghost use Rattle.xm_board.specs.Core.{Core, IsCore};
+    ghost use Rattle.xm_model.specs.ListView.{ListView};
+
+    ghost Value = { Core };
+
+    ghost view = { λ c. record { count = length c.cycles.items;
+        neighbours = map (λ (l : ListView ℕ). l.items) c.neighbours.items; cycles = c.cycles.items; out = c.out.items;
+        stopped = c.stopped; first = c.first; target = c.target } };
+
+    ghost invariant = { λ c. IsCore (record { count = length c.cycles.items;
+        neighbours = map (λ (l : ListView ℕ). l.items) c.neighbours.items; cycles = c.cycles.items; out = c.out.items;
+        stopped = c.stopped; first = c.first; target = c.target }) };
+}
+
+impl BoardCore {
+    ghost use Rattle.xm_board.specs.Answers.{IsChoice};
+    ghost use Rattle.xm_board.specs.Core.{IsCore, cycle as cycle_in, is_out as is_out_in};
+    ghost use Rattle.xm_board.specs.Inner.Choosing as spec;
+
+    /// The call does nothing, and its caller has that the core is one.
+    pub fn is_core(&self)
+        ensures { IsCore self.now }
+    {
+        // The invariant is known where a field has been read.
+        let _read = self.stopped;
+    }
+
+    /// The cycle of a part.
+    pub fn cycle(&self, p: u32) -> u32
+        ensures { result ≡ cycle_in self.now p }
+    {
+        match self.cycles.as_slice().get(p as usize) {
+            Some(cycle) => *cycle,
+            None => 0,
+        }
+    }
+
+    /// Whether a part is out.
+    pub fn is_out(&self, p: u32) -> bool
+        ensures { result ≡ is_out_in self.now p }
+    {
+        match self.out.as_slice().get(p as usize) {
+            Some(out) => *out,
+            None => false,
+        }
+    }
+
+    fn is_behind(&self, cycle: u32, q: u32) -> bool
+        ensures { result ≡ spec.is_below cycle (slice_get self.now.cycles q) }
+    {
+        match self.cycles.as_slice().get(q as usize) {
+            Some(other) => *other < cycle,
+            None => false,
+        }
+    }
+
+    fn none_behind(&self, cycle: u32, parts: &[u32]) -> bool
+        ensures { result ≡ spec.none_behind self.now.cycles cycle parts.now }
+    {
+        for q in parts {
+            if self.is_behind(cycle, *q) {
+                return false;
+            }
+        }
+        true
+    }
+
+    fn is_last(&self, p: u32) -> bool
+        ensures { result ≡ spec.none_behind self.now.cycles (cycle_in self.now p)
+            (slice_index_or self.now.neighbours p []) }
+    {
+        match self.neighbours.as_slice().get(p as usize) {
+            Some(parts) => self.none_behind(self.cycle(p), parts.as_slice()),
+            None => true,
+        }
+    }
+
+    fn is_ready(&self, p: u32) -> bool
+        ensures { result ≡ spec.is_ready self.now p }
+    {
+        !self.is_out(p) && self.cycle(p) < self.target && self.is_last(p)
+    }
+
+    fn is_earlier(&self, best: Option<u32>, p: u32) -> bool
+        ensures { result ≡ spec.is_earlier self.now best p }
+    {
+        match best {
+            Some(best) => self.cycle(p) < self.cycle(best),
+            None => true,
+        }
+    }
+
+    fn better(&self, best: Option<u32>, p: u32) -> Option<u32>
+        ensures { result ≡ spec.better_of self.now best p }
+    {
+        if self.is_ready(p) && self.is_earlier(best, p) {
+            Some(p)
+        } else {
+            best
+        }
+    }
+
+    /// The first ready part of the least cycle.
+    fn next_ready(&self) -> Option<u32>
+        ensures { result ≡ spec.best_below self.now self.now.count }
+    {
+        self.is_core();
+        let mut best = None;
+        for p in 0..self.cycles.len() {
+            best = self.better(best, p as u32);
+        }
+        best
+    }
+
+    /// The least part that is out.
+    fn least_out(&self) -> Option<u32>
+        ensures { result ≡ spec.first_mark 0 self.now.out }
+    {
+        self.is_core();
+        for p in 0..self.out.len() {
+            if self.out.as_slice()[p] {
+                return Some(p as u32);
+            }
+        }
+        None
+    }
+
+    /// What a take answers. It looks at each part and its neighbours once.
+    pub fn choice(&self) -> Choice
+        ensures { IsChoice self.now result }
+    {
+        self.is_core();
+        if self.stopped {
+            return Choice::Stopped;
+        }
+        match self.next_ready() {
+            Some(p) => Choice::Job(p),
+            None => match self.least_out() {
+                Some(p) => Choice::NotYet(p),
+                None => Choice::Finished,
+            },
+        }
+    }
+}
