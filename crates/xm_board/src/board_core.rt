@@ -33,13 +33,25 @@ impl Model for BoardCore {
 
     ghost Value = { Core };
 
-    ghost view = { λ c. record { count = length c.cycles.items;
-        neighbours = map (λ (l : ListView ℕ). l.items) c.neighbours.items; cycles = c.cycles.items; out = c.out.items;
-        stopped = c.stopped; first = c.first; target = c.target } };
+    ghost view = { λ c. record {
+      count = length c.cycles.items;
+      neighbours = map (λ (l : ListView ℕ). l.items) c.neighbours.items;
+      cycles = c.cycles.items;
+      out = c.out.items;
+      stopped = c.stopped;
+      first = c.first;
+      target = c.target;
+    } };
 
-    ghost invariant = { λ c. IsCore (record { count = length c.cycles.items;
-        neighbours = map (λ (l : ListView ℕ). l.items) c.neighbours.items; cycles = c.cycles.items; out = c.out.items;
-        stopped = c.stopped; first = c.first; target = c.target }) };
+    ghost invariant = { λ c. IsCore (record {
+      count = length c.cycles.items;
+      neighbours = map (λ (l : ListView ℕ). l.items) c.neighbours.items;
+      cycles = c.cycles.items;
+      out = c.out.items;
+      stopped = c.stopped;
+      first = c.first;
+      target = c.target;
+    }) };
 }
 
 impl BoardCore {

@@ -1,4 +1,4 @@
-use Rattle.std.proofs.Common.{◌≡◌, ◌∙◌, Some, None, false, rules, sym}
+use Rattle.std.proofs.Common.{◌≡◌, ◌∙◌, false, rules, sym}
 use Rattle.xm_board.proofs.Choosing.{finished_is, least_is, next_is, none_is}
 use Rattle.xm_board.proofs.board_core.BoardCore.choice.Goals as goal
 
