@@ -1,10 +1,10 @@
 -- Every schedule keeps the core, and its jobs are never stale.
 use Rattle.std.proofs.Common.{◌≡◌, ◌≢◌, ℕ, zero, suc, ◌+◌, ◌<◌, ◌≤◌, Bool, true, false, List, [], ◌∷◌, ◌++◌, length, map, sym, refl, ap, ◌∙◌, subst, arith, inl, inr}
-use Rattle.std.specs.Prelude.{slice_index_or, slice_set}
+use Rattle.std.specs.Prelude.{replicate, slice_index_or, slice_set}
 use Rattle.std.proofs.lemmas.Bool.{cases_lt}
 use Rattle.std.proofs.lemmas.Bool.Decides.{eqb_tells}
-use Rattle.std.proofs.lemmas.List.{get_or-set_other, get_or-set_same, length-map, length-set}
-use Rattle.xm_board.specs.Core.{AllDone, Core, IsCore, IsReady, IsWhole, cycle, given_back, is_near, is_out, posted, recalled, rounded, stopped, taken}
+use Rattle.std.proofs.lemmas.List.{get_or-set_other, get_or-set_same, length-map, length-replicate, length-set}
+use Rattle.xm_board.specs.Core.{AllDone, Core, IsCore, IsMutual, IsReady, IsWhole, cycle, given_back, is_near, is_out, posted, recalled, rounded, started, stopped, taken}
 use Rattle.xm_board.specs.Schedule.{JobOf, NoFloorFell, NoneFell, NoneStale, Runs, SchedulesStand, SomeReady, Takes, done, finished, give_back, is_stopped, job, look, not_yet, post, recall, round, stop, take}
 
 -- ---- what a step changes
@@ -159,7 +159,7 @@ after_recall c k = record {
   both_ways = k.both_ways;
   below = k.below;
   close = k.close;
-  out_early = λ p part is. absurd (let both : false ≡ true = sym (none_out c.out p) ∙ is in cc);
+  out_early = λ p part is. absurd (let no : false ≡ true = sym (none_out c.out p) ∙ is in cc);
   out_last = λ p q part also is near. absurd (let both : false ≡ true = sym (none_out c.out p) ∙ is in cc);
   round = k.round;
 }
@@ -326,3 +326,24 @@ a_ready c late core part early inside =
     let l = least_in c c.count late part in
     let low = l.least late part in
     (l.part, record { part = l.within; inside = inside l.part l.within; early = omega arith; last = λ q also near. l.least q also })
+
+nothing_out : (n p : ℕ) → slice_index_or (replicate n false) p false ≡ false
+nothing_out zero p = refl
+nothing_out (suc n) zero = refl
+nothing_out (suc n) (suc p) = nothing_out n p
+
+all_start : (n p : ℕ) → ◌≡◌ {A = ℕ} (slice_index_or (replicate n 0) p 0) 0
+all_start zero p = refl
+all_start (suc n) zero = refl
+all_start (suc n) (suc p) = all_start n p
+
+pub start_core : (neighbours : List (List ℕ)) (target : ℕ) → length neighbours ≤ 64 → IsMutual neighbours → target < 1024 → IsCore (started neighbours target)
+start_core neighbours target few both low = record {
+  whole = record { few = few; neighbours = refl; cycles = length-replicate (length neighbours) 0; out = length-replicate (length neighbours) false };
+  both_ways = both;
+  below = λ p part. (let e = all_start (length neighbours) p in omega arith);
+  close = λ p q part also near. (let e = all_start (length neighbours) p in omega arith);
+  out_early = λ p part is. absurd (let no : false ≡ true = sym (nothing_out (length neighbours) p) ∙ is in cc);
+  out_last = λ p q part also is near. absurd (let no : false ≡ true = sym (nothing_out (length neighbours) p) ∙ is in cc);
+  round = omega arith;
+}

@@ -1,6 +1,6 @@
 -- The core of a board: which parts there are, how far each is, which are out.
 use Rattle.std.specs.Prelude.{◌≡◌, ◌⊎◌, ℕ, suc, ◌+◌, ◌<◌, ◌≤◌, List, [], Bool, true, false, nat_eq, length, map}
-use Rattle.std.specs.Prelude.{slice_index_or, slice_set}
+use Rattle.std.specs.Prelude.{replicate, slice_index_or, slice_set}
 use Rattle.std.specs.List.{list_any}
 
 -- so many parts, with the neighbours of each; each part's cycle, whether it is out with a worker, whether the board
@@ -74,6 +74,23 @@ pub record IsFloor (c : Core) (t : ℕ) : Type 0 where
   pub is_part : part < c.count
   pub at : cycle c part ≡ t
   pub least : (q : ℕ) → q < c.count → t ≤ cycle c q
+
+-- a list of each part's neighbours, each of which is the other's
+abbrev pub IsMutual : List (List ℕ) → Type 0
+IsMutual neighbours = (p q : ℕ) → list_any (nat_eq q) (slice_index_or neighbours p []) ≡ true
+    → list_any (nat_eq p) (slice_index_or neighbours q []) ≡ true
+
+-- at the start every part is at cycle 0, and none is out
+abbrev pub started : List (List ℕ) → ℕ → Core
+started neighbours target = record {
+  count = length neighbours;
+  neighbours = neighbours;
+  cycles = replicate (length neighbours) 0;
+  out = replicate (length neighbours) false;
+  stopped = false;
+  first = 0;
+  target = target;
+}
 
 abbrev pub taken : Core → ℕ → Core
 taken c p = record c { out = slice_set c.out p true }

@@ -2,8 +2,9 @@
 
 ghost use Rattle.std.specs.Prelude.{◌≡◌, ◌<◌, ◌≤◌, [], map, slice_get, slice_index_or};
 
+use std::alloc::Global;
 use std::marker::Model;
-use xm_model::List;
+use xm_model::{List, OutOfMemory};
 
 /// What a take answers: the part that is handed out, or the least part that is out where none can be.
 #[derive(Clone, Copy, PartialEq, Eq, Debug)]
@@ -56,8 +57,50 @@ impl Model for BoardCore {
 
 impl BoardCore {
     ghost use Rattle.xm_board.specs.Answers.{IsChoice};
-    ghost use Rattle.xm_board.specs.Core.{IsCore, cycle as cycle_in, is_out as is_out_in};
+    ghost use Rattle.xm_board.specs.Core.{IsCore, IsMutual, IsReady, cycle as cycle_in, is_out as is_out_in};
+    ghost use Rattle.xm_board.specs.Core.{started, stopped, taken};
+    ghost use Rattle.std.specs.Prelude.{IfOk, length, ℕ};
+    ghost use Rattle.xm_model.specs.ListView.{ListView};
     ghost use Rattle.xm_board.specs.Inner.Choosing as spec;
+
+    /// The parts with these neighbours, at the start of a round up to a target.
+    pub fn new(
+        alloc: Global,
+        neighbours: List<List<u32>>,
+        target: u32,
+    ) -> Result<BoardCore, OutOfMemory>
+        requires few { length neighbours.items ≤ 64 }
+        requires both_ways { IsMutual (map (λ (l : ListView ℕ). l.items) neighbours.items) }
+        requires round { target < 1024 }
+        ensures { IfOk result (λ core. core ≡ started (map (λ (l : ListView ℕ). l.items) neighbours.items) target) }
+    {
+        let count = neighbours.len() as u32;
+        let cycles = List::filled(alloc, 0, count)?;
+        let out = List::filled(alloc, false, count)?;
+        Ok(BoardCore {
+            neighbours,
+            cycles,
+            out,
+            stopped: false,
+            first: 0,
+            target,
+        })
+    }
+
+    /// The part is handed out.
+    pub fn take(&mut self, p: u32)
+        requires { IsReady self.old p }
+        ensures { self.new ≡ taken self.old p }
+    {
+        self.out.as_mut_slice()[p as usize] = true;
+    }
+
+    /// The board is stopped.
+    pub fn stop(&mut self)
+        ensures { self.new ≡ stopped self.old }
+    {
+        self.stopped = true;
+    }
 
     /// The call does nothing, and its caller has that the core is one.
     pub fn is_core(&self)
