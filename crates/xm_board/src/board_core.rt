@@ -57,9 +57,9 @@ impl Model for BoardCore {
 
 impl BoardCore {
     ghost use Rattle.xm_board.specs.Answers.{IsChoice};
-    ghost use Rattle.xm_board.specs.Core.{IsCore, IsMutual, IsReady, cycle as cycle_in, is_out as is_out_in};
-    ghost use Rattle.xm_board.specs.Core.{started, stopped, taken};
-    ghost use Rattle.std.specs.Prelude.{IfOk, length, ℕ};
+    ghost use Rattle.xm_board.specs.Core.{AllDone, IsCore, IsMutual, IsReady, cycle as cycle_in, is_out as is_out_in};
+    ghost use Rattle.xm_board.specs.Core.{given_back, posted, rounded, started, stopped, taken};
+    ghost use Rattle.std.specs.Prelude.{◌+◌, IfOk, length, true, ℕ};
     ghost use Rattle.xm_model.specs.ListView.{ListView};
     ghost use Rattle.xm_board.specs.Inner.Choosing as spec;
 
@@ -93,6 +93,37 @@ impl BoardCore {
         ensures { self.new ≡ taken self.old p }
     {
         self.out.as_mut_slice()[p as usize] = true;
+    }
+
+    /// The part that was handed out comes in, one cycle on.
+    pub fn post(&mut self, p: u32)
+        requires part { p < self.old.count }
+        requires out { is_out_in self.old p ≡ true }
+        ensures { self.new ≡ posted self.old p }
+    {
+        self.is_core();
+        let next = self.cycle(p) + 1;
+        self.cycles.as_mut_slice()[p as usize] = next;
+        self.out.as_mut_slice()[p as usize] = false;
+    }
+
+    /// The part comes in as it went out.
+    pub fn give_back(&mut self, p: u32)
+        requires { p < self.old.count }
+        ensures { self.new ≡ given_back self.old p }
+    {
+        self.out.as_mut_slice()[p as usize] = false;
+    }
+
+    /// The next round begins, up to a later target.
+    pub fn next_round(&mut self, target: u32)
+        requires done { AllDone self.old }
+        requires later { self.old.target < target }
+        requires near { target ≤ self.old.target + 1024 }
+        ensures { self.new ≡ rounded self.old target }
+    {
+        self.first = self.target + 1;
+        self.target = target;
     }
 
     /// The board is stopped.
