@@ -1,12 +1,12 @@
 -- Lemmas: the part that is chosen is the next.
-use Rattle.std.proofs.Common.{◌≡◌, ◌<◌, ◌≤◌, ◌+◌, ℕ, zero, suc, Bool, true, false, List, [], ◌∷◌, Option, Some, None, length, slice_get, sym, refl, ap, ◌∙◌, subst, arith, inl, inr, ltb-true}
+use Rattle.std.proofs.Common.{◌≡◌, ◌<◌, ◌≤◌, ◌+◌, ℕ, zero, suc, Bool, true, false, List, [], ◌∷◌, Option, Some, None, length, min, slice_get, sym, refl, ap, ◌∙◌, subst, arith, inl, inr, ltb-true}
 use Rattle.std.specs.Prelude.{◌⊎◌, ◌&&◌, nat_eq, nat_lt, not, if◌then◌else◌, slice_index_or}
 use Rattle.std.specs.List.{list_any}
 use Rattle.std.proofs.Math.Bool.{or-true}
 use Rattle.std.proofs.lemmas.Bool.{and_from, and_parts, cases_Bool, cases_lt, cond-false, cond-true, eq-eqb, eqb-true, lt-ltb, ltb-false, not-true, or_cases}
 use Rattle.std.proofs.lemmas.Option.{get_or_from_slice_get, slice_get-get_or, slice_get_within}
-use Rattle.xm_board.specs.Core.{AllDone, Core, IsCore, IsLeastOut, IsNext, IsReady, IsWhole, NoneReady, cycle, is_out}
-use Rattle.xm_board.specs.Inner.Choosing.{best_below, better_of, first_mark, is_below, is_earlier, is_ready, none_behind}
+use Rattle.xm_board.specs.Core.{AllDone, Core, IsCore, IsFloor, IsLeastOut, IsNext, IsReady, IsWhole, NoneReady, cycle, is_out}
+use Rattle.xm_board.specs.Inner.Choosing.{IsLeastBelow, best_below, better_of, first_mark, is_below, is_earlier, is_ready, none_behind}
 use Rattle.xm_board.proofs.Standing.{a_ready}
 
 -- ---- neighbours that are behind
@@ -190,3 +190,43 @@ finished_is c core none is = λ p part. elim (cases_lt (cycle c p) c.target) [
   | inl early ↦ (let r = a_ready c p core part early (λ q also. no_mark 0 c.out is q) in absurd (none r.0 r.1))
   | inr late ↦ (let le = core.below p part in omega arith)
 ]
+
+-- ---- the least cycle
+
+pub least_first : (c : Core) (t : ℕ) → t ≡ cycle c 0 → IsLeastBelow c 1 t
+least_first c t is = record {
+  part = 0;
+  inside = omega arith;
+  at = sym is;
+  least = λ q lt. (let same : q ≡ 0 = omega arith in let e : cycle c q ≡ cycle c 0 = ap (cycle c) same in omega arith);
+}
+
+pub least_more : (c : Core) (n t u : ℕ) → IsLeastBelow c n t → u ≡ min t (cycle c n) → IsLeastBelow c (n + 1) u
+least_more c n t u so_far is = elim (cases_lt (cycle c n) t) [
+  | inl less ↦ record {
+    part = n;
+    inside = omega arith;
+    at = omega arith;
+    least = λ q lt. elim (cases_lt q n) [
+      | inl l ↦ (let le = so_far.least q l in omega arith)
+      | inr g ↦ (let same : q ≡ n = omega arith in let e : cycle c q ≡ cycle c n = ap (cycle c) same in omega arith)
+    ];
+  }
+  | inr more ↦ record {
+    part = so_far.part;
+    inside = (let l = so_far.inside in omega arith);
+    at = (let e = so_far.at in omega arith);
+    least = λ q lt. elim (cases_lt q n) [
+      | inl l ↦ (let le = so_far.least q l in omega arith)
+      | inr g ↦ (let same : q ≡ n = omega arith in let e : cycle c q ≡ cycle c n = ap (cycle c) same in omega arith)
+    ];
+  }
+]
+
+pub least_all : (c : Core) (n t : ℕ) → IsLeastBelow c n t → n ≡ c.count → IsFloor c t
+least_all c n t all is = record {
+  part = all.part;
+  is_part = (let l = all.inside in omega arith);
+  at = all.at;
+  least = λ q lt. all.least q (omega arith);
+}

@@ -1,9 +1,9 @@
 -- Every schedule keeps the core, and its jobs are never stale.
-use Rattle.std.proofs.Common.{◌≡◌, ◌≢◌, ℕ, zero, suc, ◌+◌, ◌<◌, ◌≤◌, Bool, true, false, List, [], ◌∷◌, ◌++◌, length, map, sym, refl, ap, ◌∙◌, subst, arith, inl, inr}
+use Rattle.std.proofs.Common.{◌≡◌, ◌≢◌, ℕ, zero, suc, ◌+◌, ◌<◌, ◌≤◌, Bool, true, false, List, [], ◌∷◌, ◌++◌, length, sym, refl, ap, ◌∙◌, subst, arith, inl, inr}
 use Rattle.std.specs.Prelude.{replicate, slice_index_or, slice_set}
 use Rattle.std.proofs.lemmas.Bool.{cases_lt}
 use Rattle.std.proofs.lemmas.Bool.Decides.{eqb_tells}
-use Rattle.std.proofs.lemmas.List.{get_or-set_other, get_or-set_same, length-map, length-replicate, length-set}
+use Rattle.std.proofs.lemmas.List.{get_or-set_other, get_or-set_same, length-replicate, length-set}
 use Rattle.xm_board.specs.Core.{AllDone, Core, IsCore, IsMutual, IsReady, IsWhole, cycle, given_back, is_near, is_out, posted, recalled, rounded, started, stopped, taken}
 use Rattle.xm_board.specs.Schedule.{JobOf, NoFloorFell, NoneFell, NoneStale, Runs, SchedulesStand, SomeReady, Takes, done, finished, give_back, is_stopped, job, look, not_yet, post, recall, round, stop, take}
 
@@ -36,10 +36,10 @@ module _ (c : Core) (whole : IsWhole c) (p : ℕ) (part : p < c.count) where
   posted_whole : IsWhole (posted c p)
   posted_whole = record { few = whole.few; neighbours = whole.neighbours; cycles = length-set c.cycles p (suc (cycle c p)) ∙ whole.cycles; out = set_whole false }
 
-none_out : (out : List Bool) (p : ℕ) → slice_index_or (map (λ o. false) out) p false ≡ false
-none_out [] p = refl
-none_out (o ∷ out) zero = refl
-none_out (o ∷ out) (suc p) = none_out out p
+nothing_out : (n p : ℕ) → slice_index_or (replicate n false) p false ≡ false
+nothing_out zero p = refl
+nothing_out (suc n) zero = refl
+nothing_out (suc n) (suc p) = nothing_out n p
 
 -- ---- jobs
 
@@ -155,12 +155,12 @@ rises c p q whole inside =
 
 pub after_recall : (c : Core) → IsCore c → IsCore (recalled c)
 after_recall c k = record {
-  whole = record { few = k.whole.few; neighbours = k.whole.neighbours; cycles = k.whole.cycles; out = length-map c.out (λ (o : Bool). false) ∙ k.whole.out };
+  whole = record { few = k.whole.few; neighbours = k.whole.neighbours; cycles = k.whole.cycles; out = length-replicate c.count false };
   both_ways = k.both_ways;
   below = k.below;
   close = k.close;
-  out_early = λ p part is. absurd (let no : false ≡ true = sym (none_out c.out p) ∙ is in cc);
-  out_last = λ p q part also is near. absurd (let both : false ≡ true = sym (none_out c.out p) ∙ is in cc);
+  out_early = λ p part is. absurd (let no : false ≡ true = sym (nothing_out c.count p) ∙ is in cc);
+  out_last = λ p q part also is near. absurd (let both : false ≡ true = sym (nothing_out c.count p) ∙ is in cc);
   round = k.round;
 }
 
@@ -326,11 +326,6 @@ a_ready c late core part early inside =
     let l = least_in c c.count late part in
     let low = l.least late part in
     (l.part, record { part = l.within; inside = inside l.part l.within; early = omega arith; last = λ q also near. l.least q also })
-
-nothing_out : (n p : ℕ) → slice_index_or (replicate n false) p false ≡ false
-nothing_out zero p = refl
-nothing_out (suc n) zero = refl
-nothing_out (suc n) (suc p) = nothing_out n p
 
 all_start : (n p : ℕ) → ◌≡◌ {A = ℕ} (slice_index_or (replicate n 0) p 0) 0
 all_start zero p = refl

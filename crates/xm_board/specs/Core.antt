@@ -1,5 +1,5 @@
 -- The core of a board: which parts there are, how far each is, which are out.
-use Rattle.std.specs.Prelude.{◌≡◌, ◌⊎◌, ℕ, suc, ◌+◌, ◌<◌, ◌≤◌, List, [], Bool, true, false, nat_eq, length, map}
+use Rattle.std.specs.Prelude.{◌≡◌, ◌⊎◌, ℕ, suc, ◌+◌, ◌<◌, ◌≤◌, List, [], Bool, true, false, nat_eq, length}
 use Rattle.std.specs.Prelude.{replicate, slice_index_or, slice_set}
 use Rattle.std.specs.List.{list_any}
 
@@ -102,7 +102,7 @@ abbrev pub given_back : Core → ℕ → Core
 given_back c p = record c { out = slice_set c.out p false }
 
 abbrev pub recalled : Core → Core
-recalled c = record c { out = map (λ out. false) c.out }
+recalled c = record c { out = replicate c.count false }
 
 abbrev pub stopped : Core → Core
 stopped c = record c { stopped = true }

@@ -57,8 +57,8 @@ impl Model for BoardCore {
 
 impl BoardCore {
     ghost use Rattle.xm_board.specs.Answers.{IsChoice};
-    ghost use Rattle.xm_board.specs.Core.{AllDone, IsCore, IsMutual, IsReady, cycle as cycle_in, is_out as is_out_in};
-    ghost use Rattle.xm_board.specs.Core.{given_back, posted, rounded, started, stopped, taken};
+    ghost use Rattle.xm_board.specs.Core.{AllDone, IsCore, IsFloor, IsMutual, IsReady, cycle as cycle_in, is_out as is_out_in};
+    ghost use Rattle.xm_board.specs.Core.{given_back, posted, recalled, rounded, started, stopped, taken};
     ghost use Rattle.std.specs.Prelude.{◌+◌, IfOk, length, true, ℕ};
     ghost use Rattle.xm_model.specs.ListView.{ListView};
     ghost use Rattle.xm_board.specs.Inner.Choosing as spec;
@@ -115,6 +115,14 @@ impl BoardCore {
         self.out.as_mut_slice()[p as usize] = false;
     }
 
+    /// Every part comes in.
+    pub fn recall(&mut self)
+        ensures { self.new ≡ recalled self.old }
+    {
+        self.is_core();
+        self.out.as_mut_slice().fill(false);
+    }
+
     /// The next round begins, up to a later target.
     pub fn next_round(&mut self, target: u32)
         requires done { AllDone self.old }
@@ -159,6 +167,19 @@ impl BoardCore {
             Some(out) => *out,
             None => false,
         }
+    }
+
+    /// The least cycle of all parts.
+    pub fn floor(&self) -> u32
+        requires { 0 < self.now.count }
+        ensures { IsFloor self.now result }
+    {
+        self.is_core();
+        let mut least = self.cycle(0);
+        for p in 1..self.cycles.len() {
+            least = least.min(self.cycle(p as u32));
+        }
+        least
     }
 
     fn is_behind(&self, cycle: u32, q: u32) -> bool

@@ -1,5 +1,5 @@
 -- The tests by which the next part is chosen.
-use Rattle.std.specs.Prelude.{ℕ, zero, suc, List, [], ◌∷◌, Option, Some, None, Bool, true, false, ◌&&◌, not, nat_lt}
+use Rattle.std.specs.Prelude.{◌≡◌, ◌<◌, ◌≤◌, ℕ, zero, suc, List, [], ◌∷◌, Option, Some, None, Bool, true, false, ◌&&◌, not, nat_lt}
 use Rattle.std.specs.Prelude.{if◌then◌else◌, slice_get, slice_index_or}
 use Rattle.xm_board.specs.Core.{Core, cycle, is_out}
 
@@ -34,3 +34,10 @@ best_below c (suc p) = better_of c (best_below c p) p
 abbrev pub first_mark : ℕ → List Bool → Option ℕ
 first_mark p [] = None
 first_mark p (mark ∷ marks) = if mark then Some p else first_mark (suc p) marks
+
+-- the least cycle of the parts below n
+pub record IsLeastBelow (c : Core) (n t : ℕ) : Type 0 where
+  pub part : ℕ
+  pub inside : part < n
+  pub at : cycle c part ≡ t
+  pub least : (q : ℕ) → q < n → t ≤ cycle c q
