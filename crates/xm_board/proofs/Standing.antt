@@ -1,10 +1,10 @@
 -- Every schedule keeps the core, and its jobs are never stale.
-use Rattle.std.proofs.Common.{◌≡◌, ◌≢◌, ℕ, zero, suc, ◌+◌, ◌<◌, ◌≤◌, Bool, true, false, List, [], ◌∷◌, ◌++◌, length, map, sym, refl, ap, ◌∙◌, subst, arith, inl, inr}
-use Rattle.std.specs.Prelude.{slice_index_or, slice_set}
+use Rattle.std.proofs.Common.{◌≡◌, ◌≢◌, ℕ, zero, suc, ◌+◌, ◌<◌, ◌≤◌, Bool, true, false, List, [], ◌∷◌, ◌++◌, length, sym, refl, ap, ◌∙◌, subst, arith, inl, inr}
+use Rattle.std.specs.Prelude.{replicate, slice_index_or, slice_set}
 use Rattle.std.proofs.lemmas.Bool.{cases_lt}
 use Rattle.std.proofs.lemmas.Bool.Decides.{eqb_tells}
-use Rattle.std.proofs.lemmas.List.{get_or-set_other, get_or-set_same, length-map, length-set}
-use Rattle.xm_board.specs.Core.{AllDone, Core, IsCore, IsReady, IsWhole, cycle, given_back, is_near, is_out, posted, recalled, rounded, stopped, taken}
+use Rattle.std.proofs.lemmas.List.{get_or-set_other, get_or-set_same, length-replicate, length-set}
+use Rattle.xm_board.specs.Core.{AllDone, Core, IsCore, IsMutual, IsReady, IsWhole, cycle, given_back, is_near, is_out, posted, recalled, rounded, started, stopped, taken}
 use Rattle.xm_board.specs.Schedule.{JobOf, NoFloorFell, NoneFell, NoneStale, Runs, SchedulesStand, SomeReady, Takes, done, finished, give_back, is_stopped, job, look, not_yet, post, recall, round, stop, take}
 
 -- ---- what a step changes
@@ -34,12 +34,12 @@ module _ (c : Core) (whole : IsWhole c) (p : ℕ) (part : p < c.count) where
   set_whole o = length-set c.out p o ∙ whole.out
 
   posted_whole : IsWhole (posted c p)
-  posted_whole = record { neighbours = whole.neighbours; cycles = length-set c.cycles p (suc (cycle c p)) ∙ whole.cycles; out = set_whole false }
+  posted_whole = record { few = whole.few; neighbours = whole.neighbours; cycles = length-set c.cycles p (suc (cycle c p)) ∙ whole.cycles; out = set_whole false }
 
-none_out : (out : List Bool) (p : ℕ) → slice_index_or (map (λ o. false) out) p false ≡ false
-none_out [] p = refl
-none_out (o ∷ out) zero = refl
-none_out (o ∷ out) (suc p) = none_out out p
+nothing_out : (n p : ℕ) → slice_index_or (replicate n false) p false ≡ false
+nothing_out zero p = refl
+nothing_out (suc n) zero = refl
+nothing_out (suc n) (suc p) = nothing_out n p
 
 -- ---- jobs
 
@@ -85,9 +85,9 @@ none_of c p inside (j ∷ js) f =
 
 -- ---- the core after each step
 
-after_take : (c : Core) (p : ℕ) → IsReady c p → IsCore c → IsCore (taken c p)
+pub after_take : (c : Core) (p : ℕ) → IsReady c p → IsCore c → IsCore (taken c p)
 after_take c p ready k = record {
-  whole = record { neighbours = k.whole.neighbours; cycles = k.whole.cycles; out = set_whole c k.whole p ready.part true };
+  whole = record { few = k.whole.few; neighbours = k.whole.neighbours; cycles = k.whole.cycles; out = set_whole c k.whole p ready.part true };
   both_ways = k.both_ways;
   below = k.below;
   close = k.close;
@@ -104,9 +104,9 @@ after_take c p ready k = record {
   round = k.round;
 }
 
-after_in : (c : Core) (p : ℕ) → p < c.count → IsCore c → IsCore (given_back c p)
+pub after_in : (c : Core) (p : ℕ) → p < c.count → IsCore c → IsCore (given_back c p)
 after_in c p inside k = record {
-  whole = record { neighbours = k.whole.neighbours; cycles = k.whole.cycles; out = set_whole c k.whole p inside false };
+  whole = record { few = k.whole.few; neighbours = k.whole.neighbours; cycles = k.whole.cycles; out = set_whole c k.whole p inside false };
   both_ways = k.both_ways;
   below = k.below;
   close = k.close;
@@ -115,7 +115,7 @@ after_in c p inside k = record {
   round = k.round;
 }
 
-after_post : (c : Core) (p : ℕ) → p < c.count → is_out c p ≡ true → IsCore c → IsCore (posted c p)
+pub after_post : (c : Core) (p : ℕ) → p < c.count → is_out c p ≡ true → IsCore c → IsCore (posted c p)
 after_post c p inside out k = record {
   whole = posted_whole c k.whole p inside;
   both_ways = k.both_ways;
@@ -153,14 +153,14 @@ rises c p q whole inside =
       | inr t ↦ (let n = cycle_elsewhere c whole p inside q t.1 in omega arith)
     ]
 
-after_recall : (c : Core) → IsCore c → IsCore (recalled c)
+pub after_recall : (c : Core) → IsCore c → IsCore (recalled c)
 after_recall c k = record {
-  whole = record { neighbours = k.whole.neighbours; cycles = k.whole.cycles; out = length-map c.out (λ (o : Bool). false) ∙ k.whole.out };
+  whole = record { few = k.whole.few; neighbours = k.whole.neighbours; cycles = k.whole.cycles; out = length-replicate c.count false };
   both_ways = k.both_ways;
   below = k.below;
   close = k.close;
-  out_early = λ p part is. absurd (let both : false ≡ true = sym (none_out c.out p) ∙ is in cc);
-  out_last = λ p q part also is near. absurd (let both : false ≡ true = sym (none_out c.out p) ∙ is in cc);
+  out_early = λ p part is. absurd (let no : false ≡ true = sym (nothing_out c.count p) ∙ is in cc);
+  out_last = λ p q part also is near. absurd (let both : false ≡ true = sym (nothing_out c.count p) ∙ is in cc);
   round = k.round;
 }
 
@@ -202,7 +202,7 @@ after_round c target all above within js b =
     let k = b.core in
     record {
       core = record {
-        whole = record { neighbours = k.whole.neighbours; cycles = k.whole.cycles; out = k.whole.out };
+        whole = record { few = k.whole.few; neighbours = k.whole.neighbours; cycles = k.whole.cycles; out = k.whole.out };
         both_ways = k.both_ways;
         below = λ p part. (let e = all p part in omega arith);
         close = k.close;
@@ -256,7 +256,7 @@ kept {c} {d = e} {js = js} {ls = ls} (stop r) b =
     let k = b.core in
     stays c (stopped c) e ls refl refl (kept r (record {
       core = record {
-        whole = record { neighbours = k.whole.neighbours; cycles = k.whole.cycles; out = k.whole.out };
+        whole = record { few = k.whole.few; neighbours = k.whole.neighbours; cycles = k.whole.cycles; out = k.whole.out };
         both_ways = k.both_ways;
         below = k.below;
         close = k.close;
@@ -326,3 +326,19 @@ a_ready c late core part early inside =
     let l = least_in c c.count late part in
     let low = l.least late part in
     (l.part, record { part = l.within; inside = inside l.part l.within; early = omega arith; last = λ q also near. l.least q also })
+
+all_start : (n p : ℕ) → ◌≡◌ {A = ℕ} (slice_index_or (replicate n 0) p 0) 0
+all_start zero p = refl
+all_start (suc n) zero = refl
+all_start (suc n) (suc p) = all_start n p
+
+pub start_core : (neighbours : List (List ℕ)) (target : ℕ) → length neighbours ≤ 64 → IsMutual neighbours → target < 1024 → IsCore (started neighbours target)
+start_core neighbours target few both low = record {
+  whole = record { few = few; neighbours = refl; cycles = length-replicate (length neighbours) 0; out = length-replicate (length neighbours) false };
+  both_ways = both;
+  below = λ p part. (let e = all_start (length neighbours) p in omega arith);
+  close = λ p q part also near. (let e = all_start (length neighbours) p in omega arith);
+  out_early = λ p part is. absurd (let no : false ≡ true = sym (nothing_out (length neighbours) p) ∙ is in cc);
+  out_last = λ p q part also is near. absurd (let no : false ≡ true = sym (nothing_out (length neighbours) p) ∙ is in cc);
+  round = omega arith;
+}

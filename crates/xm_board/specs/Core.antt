@@ -1,6 +1,6 @@
 -- The core of a board: which parts there are, how far each is, which are out.
-use Rattle.std.specs.Prelude.{◌≡◌, ◌⊎◌, ℕ, suc, ◌+◌, ◌<◌, ◌≤◌, List, [], Bool, true, false, nat_eq, length, map}
-use Rattle.std.specs.Prelude.{slice_index_or, slice_set}
+use Rattle.std.specs.Prelude.{◌≡◌, ◌⊎◌, ℕ, suc, ◌+◌, ◌<◌, ◌≤◌, List, [], Bool, true, false, nat_eq, length}
+use Rattle.std.specs.Prelude.{replicate, slice_index_or, slice_set}
 use Rattle.std.specs.List.{list_any}
 
 -- so many parts, with the neighbours of each; each part's cycle, whether it is out with a worker, whether the board
@@ -24,8 +24,9 @@ is_out c p = slice_index_or c.out p false
 abbrev pub is_near : Core → ℕ → ℕ → Bool
 is_near c p q = list_any (nat_eq q) (slice_index_or c.neighbours p [])
 
--- there is a cycle for each part, and whether it is out
+-- there are at most 64 parts, and for each its neighbours, its cycle, and whether it is out
 pub record IsWhole (c : Core) : Type 0 where
+  pub few : c.count ≤ 64
   pub neighbours : length c.neighbours ≡ c.count
   pub cycles : length c.cycles ≡ c.count
   pub out : length c.out ≡ c.count
@@ -60,6 +61,10 @@ pub record IsLeastOut (c : Core) (p : ℕ) : Type 0 where
   pub out : is_out c p ≡ true
   pub least : (q : ℕ) → q < c.count → is_out c q ≡ true → p ≤ q
 
+-- no part may be handed out
+abbrev pub NoneReady : Core → Type 0
+NoneReady c = (p : ℕ) → IsReady c p → ⊥
+
 abbrev pub AllDone : Core → Type 0
 AllDone c = (p : ℕ) → p < c.count → cycle c p ≡ c.target
 
@@ -69,6 +74,23 @@ pub record IsFloor (c : Core) (t : ℕ) : Type 0 where
   pub is_part : part < c.count
   pub at : cycle c part ≡ t
   pub least : (q : ℕ) → q < c.count → t ≤ cycle c q
+
+-- a list of each part's neighbours, each of which is the other's
+abbrev pub IsMutual : List (List ℕ) → Type 0
+IsMutual neighbours = (p q : ℕ) → list_any (nat_eq q) (slice_index_or neighbours p []) ≡ true
+    → list_any (nat_eq p) (slice_index_or neighbours q []) ≡ true
+
+-- at the start every part is at cycle 0, and none is out
+abbrev pub started : List (List ℕ) → ℕ → Core
+started neighbours target = record {
+  count = length neighbours;
+  neighbours = neighbours;
+  cycles = replicate (length neighbours) 0;
+  out = replicate (length neighbours) false;
+  stopped = false;
+  first = 0;
+  target = target;
+}
 
 abbrev pub taken : Core → ℕ → Core
 taken c p = record c { out = slice_set c.out p true }
@@ -80,7 +102,7 @@ abbrev pub given_back : Core → ℕ → Core
 given_back c p = record c { out = slice_set c.out p false }
 
 abbrev pub recalled : Core → Core
-recalled c = record c { out = map (λ out. false) c.out }
+recalled c = record c { out = replicate c.count false }
 
 abbrev pub stopped : Core → Core
 stopped c = record c { stopped = true }

@@ -1,2 +1,4 @@
+pub mod Answers
 pub mod Core
+pub mod Inner
 pub mod Schedule

@@ -1,7 +1,7 @@
 -- Schedules: lists of events, in which each job that is posted or given back was taken before.
 use Rattle.std.specs.Prelude.{◌≡◌, ℕ, ◌+◌, ◌<◌, ◌≤◌, true, false, List, [], ◌∷◌, ◌++◌, Some, slice_get}
-use Rattle.xm_board.specs.Core.{AllDone, Core, IsCore, IsFloor, IsLeastOut, IsNext, IsReady, cycle, given_back, is_out}
-use Rattle.xm_board.specs.Core.{posted, recalled, rounded, stopped, taken}
+use Rattle.xm_board.specs.Core.{AllDone, Core, IsCore, IsFloor, IsLeastOut, IsNext, IsReady, NoneReady, cycle, given_back}
+use Rattle.xm_board.specs.Core.{is_out, posted, recalled, rounded, stopped, taken}
 
 -- the part and the cycle that is left
 pub record JobOf : Type 0 where
@@ -16,7 +16,7 @@ pub data Takes : Core → Core → List JobOf → Type 0 where
   is_stopped : {c : Core} → c.stopped ≡ true → Takes c c []
   finished : {c : Core} → c.stopped ≡ false → AllDone c → Takes c c []
   job : {c : Core} (p : ℕ) → c.stopped ≡ false → IsNext c p → Takes c (taken c p) (job_of c p ∷ [])
-  not_yet : {c : Core} (p : ℕ) → c.stopped ≡ false → ((q : ℕ) → IsReady c q → ⊥) → IsLeastOut c p → Takes c c []
+  not_yet : {c : Core} (p : ℕ) → c.stopped ≡ false → NoneReady c → IsLeastOut c p → Takes c c []
 
 -- The events from one core with these jobs to another. A job is used at most once, and not after a recall that follows
 -- its take. A post or a give back that is stale is a look.

@@ -1,6 +1,8 @@
 //! The core of the partitioned simulator, without threads: how far each part is, and which are out with workers.
 #![tactic(auto)]
 
+mod board_core;
 mod laws;
 
+pub use board_core::{BoardCore, Choice};
 pub use laws::{schedules_stand, some_ready};
