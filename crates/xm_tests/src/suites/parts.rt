@@ -244,12 +244,31 @@ fn passes_a_packet(alloc: Global, design: &Design, parts: &Parts) -> Result<bool
     requires design { parts.now.design ≡ design.now }
     requires two { parts.now.count ≡ 2 }
 {
-    let first = rows_at_reset(alloc, design, parts, &[Choice::Offer(Some(X)), Choice::Ready(true)])?;
-    let second = halves_on(alloc, design, parts, &first, &[Choice::Offer(None), Choice::Ready(false)])?;
-    let third = halves_on(alloc, design, parts, &second, &[Choice::Offer(None), Choice::Ready(false)])?;
-    Ok(have_wires(&first, &[MOVES], &[WAITS])
-        && have_wires(&second, &[IDLE], &[MOVES])
-        && have_wires(&third, &[WAITS], &[IDLE]))
+    let first = rows_at_reset(
+        alloc,
+        design,
+        parts,
+        &[Choice::Offer(Some(X)), Choice::Ready(true)],
+    )?;
+    let second = halves_on(
+        alloc,
+        design,
+        parts,
+        &first,
+        &[Choice::Offer(None), Choice::Ready(false)],
+    )?;
+    let third = halves_on(
+        alloc,
+        design,
+        parts,
+        &second,
+        &[Choice::Offer(None), Choice::Ready(false)],
+    )?;
+    Ok(
+        have_wires(&first, &[MOVES], &[WAITS])
+            && have_wires(&second, &[IDLE], &[MOVES])
+            && have_wires(&third, &[WAITS], &[IDLE]),
+    )
 }
 
 /// The state and the frame, put together from the rows of two parts, of which one is a copy.

@@ -213,9 +213,7 @@ fn read(
 
 fn answers(alloc: Global, design: &Design, names: &Names, text: &str, expected: &str) -> bool {
     let value = Value::from_slice(alloc, text.as_bytes());
-    value.is_ok_and(|value| {
-        is_answer(&read(alloc, design, names, Some(&value)), expected)
-    })
+    value.is_ok_and(|value| { is_answer(&read(alloc, design, names, Some(&value)), expected) })
 }
 
 fn all_answer(alloc: Global, design: &Design, names: &Names) -> bool {
