@@ -9,11 +9,12 @@ use xm_design::Task;
 use xm_model::{List, OutOfMemory, Prim, SourceMode};
 use xm_order::Signal;
 
-/// How far a draft has come. Signals stand by rank: `waits` is 0 for one that was made, or that no task makes;
-/// `drafted` tells which have their step; `readers` are the primitives that may need it. `single` are the primitives
-/// whose signals are drafted one by one.
+/// How far a draft has come. Signals stand by rank: `makers` are the primitives of their tasks; `waits` is 0 for one
+/// that was made, or that no task makes; `drafted` tells which have their step; `readers` are the primitives that may
+/// need it. `single` are the primitives whose signals are drafted one by one.
 #[derive(Drop)]
 struct Draft {
+    makers: List<u32>,
     waits: List<u32>,
     drafted: List<bool>,
     readers: List<u32>,
@@ -83,6 +84,23 @@ fn kind_of(step: Step, prim: &Prim) -> u8 {
 const KINDS: u8 = 7;
 
 impl Draft {
+    /// Whether the primitive's task makes this signal.
+    fn makes(&self, p: u32, signal: Signal) -> bool {
+        self.makers.as_slice().get(rank(signal)).copied() == Some(p)
+    }
+
+    /// Whether the primitive's tasks make all its signals. A queue that is cut has a signal of another part.
+    fn makes_all(&self, p: u32, prim: &Prim) -> bool {
+        for signal in signals_of_all(prim) {
+            if let Some(signal) = signal
+                && !self.makes(p, signal)
+            {
+                return false;
+            }
+        }
+        true
+    }
+
     /// Drafts a step for this level, if all its signals wait for it and all that they need were made.
     fn consider(
         &mut self,
@@ -94,6 +112,7 @@ impl Draft {
         for signal in signals {
             if let Some(signal) = signal
                 && (is_set(&self.drafted, rank(signal))
+                    || !self.makes(prim_of(step), signal)
                     || !follows(prim, signal, self.waits.as_slice(), 0))
             {
                 return Ok(());
@@ -226,13 +245,16 @@ fn readers_of(alloc: Global, prims: &[Prim], signals: u32) -> Result<List<u32>, 
 /// A draft with no step.
 fn begun(alloc: Global, prims: &[Prim], tasks: &[Task], places: u32) -> Result<Draft, OutOfMemory> {
     let signals = places.saturating_mul(2);
+    let mut makers = List::filled(alloc, u32::MAX, signals)?;
     let mut waits = List::filled(alloc, 0, signals)?;
     let mut drafted = List::filled(alloc, true, signals)?;
     for task in tasks {
+        put(&mut makers, rank(task.signal), task.prim);
         put(&mut waits, rank(task.signal), 1);
         put(&mut drafted, rank(task.signal), false);
     }
     Ok(Draft {
+        makers,
         waits,
         drafted,
         readers: readers_of(alloc, prims, signals)?,
@@ -266,10 +288,11 @@ impl Draft {
             let mut level = List::new(alloc);
             for (p, prim) in prims.iter().enumerate() {
                 if is_first(prim, kind) {
-                    if is_eager(prim) {
+                    let number = u32::try_from(p).unwrap_or(u32::MAX);
+                    if is_eager(prim) || !self.makes_all(number, prim) {
                         put(&mut self.single, p, true);
                     }
-                    self.visit(u32::try_from(p).unwrap_or(u32::MAX), prim, &mut level)?;
+                    self.visit(number, prim, &mut level)?;
                 }
             }
             let mut none = List::new(alloc);
