@@ -76,9 +76,10 @@ impl Ring {
     pub fn first(&self) -> Option<u8>
         ensures { result ≡ slice_get self.now.items 0 }
     {
-        // It is read before the test, which then needs no branch: whether a queue is empty is hard to foretell.
-        let packet = self.places[self.head];
-        if self.len > 0 { Some(packet) } else { None }
+        if self.len == 0 {
+            return None;
+        }
+        Some(self.places[self.head])
     }
 
     /// Lets the oldest packet leave, if there is one.

@@ -1,8 +1,7 @@
 //! The rows of a seeded tape: draws of a linear congruential generator.
 
-ghost use Rattle.std.specs.Prelude.{◌≡◌, ◌+◌, ◌*◌, ◌<◌, ◌≤◌, length, map};
+ghost use Rattle.std.specs.Prelude.{◌≡◌, ◌+◌, ◌*◌, ◌<◌, length, map};
 ghost use Rattle.xm_model.specs.Component.{component_of};
-ghost use Rattle.xm_model.specs.declared.state.Choice.TheVariants.{Offer};
 ghost use Rattle.xm_tape.specs.Draws as spec;
 
 use xm_model::{Choice, Prim};
@@ -32,24 +31,13 @@ pub fn draw(number: u64, bound: u64) -> u64
     }
 }
 
-/// The colour before this place, and none at place 0. It is read before the test, which then needs no branch: what
-/// was drawn is hard to foretell.
-fn colour_before(colours: &[u8], place: usize) -> Option<u8>
-    requires { place ≤ length colours.now }
-    ensures { Offer result ≡ spec.offer_drawn colours.now place }
-{
-    if colours.len() == 0 {
-        return None;
-    }
-    let colour = colours[place.saturating_sub(1)];
-    if place > 0 { Some(colour) } else { None }
-}
-
 fn offer_drawn(colours: &[u8], number: u64) -> Choice
     ensures { result ≡ spec.offer_drawn colours.now (spec.draw number (length colours.now + 1)) }
 {
-    let place = draw(number, colours.len() as u64 + 1) as usize;
-    Choice::Offer(colour_before(colours, place))
+    match draw(number, colours.len() as u64 + 1) {
+        0 => Choice::Offer(None),
+        place => Choice::Offer(colours.get(place as usize - 1).copied()),
+    }
 }
 
 /// The choice that a number is for a source or a sink.
