@@ -1,3 +1,4 @@
 mod Halving
 mod Over
+mod Stepped
 pub mod Within

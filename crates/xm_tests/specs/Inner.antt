@@ -2,3 +2,4 @@
 pub mod Fitting
 pub mod Halved
 pub mod Over
+pub mod Stepped

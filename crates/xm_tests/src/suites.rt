@@ -10,6 +10,7 @@ mod lists_and_nets;
 mod names;
 mod nets;
 mod orders;
+mod part_runs;
 mod parts;
 mod persistency;
 mod rows;

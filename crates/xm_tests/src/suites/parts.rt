@@ -24,7 +24,7 @@ use xm_parts::{
 use xm_step::{Evaluator, blank, frame, reset};
 
 /// Four queues in a row: a net of 5 channels and 1 colour.
-const QUEUES: [Piece; 6] = [
+pub const QUEUES: [Piece; 6] = [
     Piece::Source(0, &[X], SourceMode::Keep),
     Piece::Queue(0, 1, 1, &[]),
     Piece::Queue(1, 2, 1, &[]),
