@@ -18,7 +18,7 @@ use Rattle.xm_order.specs.declared.signal.Signal.{Signal}
 use Rattle.xm_order.specs.declared.signal.Signal.TheVariants as signal
 use Rattle.xm_plan.specs.Inner.Made.{AreMade, IsDone}
 use Rattle.xm_plan.specs.Inner.Operations
-use Rattle.xm_plan.specs.Inner.Operations.{AllFit, AreBelow, FitsOperation, IsOperationOf, Keeps, all_tasks, places_of, prim_of, signals_made, singles, table_a_in, table_b_in, table_in, task_of, tasks_of, to_a_in}
+use Rattle.xm_plan.specs.Inner.Operations.{AllFit, AreApart, AreBelow, FitsOperation, IsOperationOf, Keeps, all_tasks, places_of, prim_of, signals_made, singles, table_a_in, table_b_in, table_in, task_of, tasks_of, to_a_in}
 use Rattle.xm_plan.specs.Schedule.{ArePlaced, IsMaker, IsSchedule, SameTasks}
 use Rattle.xm_plan.specs.Inner.Kept.{AreFor}
 use Rattle.xm_plan.specs.declared.operation.Operation.{Operation}
@@ -127,19 +127,19 @@ pub function_done : (choices : List ℕ) (m : Component) (s : Content) (w : Choi
 function_done choices m s w φ ψ p input out σs Operations.function made = made
 
 pub fork_plain_done : (choices : List ℕ) (m : Component) (s : Content) (w : Choice) (φ ψ : Signals) (p input a b n : ℕ) (σs : List Signal) → IsOperationOf choices (operation.ForkPlain p input a b n) m →
-    ((ta tb : List ℕ) → a ≢ b → Keeps n ta → Keeps n tb → AreMade (Fork input a b ta tb) s w φ σs ψ) → AreMade m s w φ σs ψ
+    ((ta tb : List ℕ) → AreApart input a b → Keeps n ta → Keeps n tb → AreMade (Fork input a b ta tb) s w φ σs ψ) → AreMade m s w φ σs ψ
 fork_plain_done choices m s w φ ψ p input a b n σs (Operations.fork_plain {ta = ta} {tb = tb} apart ka kb) made = made ta tb apart ka kb
 
 pub fork_done : (choices : List ℕ) (m : Component) (s : Content) (w : Choice) (φ ψ : Signals) (p input a b : ℕ) (σs : List Signal) → IsOperationOf choices (operation.Fork p input a b) m →
-    (a ≢ b → AreMade (Fork input a b (table_a_in m) (table_b_in m)) s w φ σs ψ) → AreMade m s w φ σs ψ
+    (AreApart input a b → AreMade (Fork input a b (table_a_in m) (table_b_in m)) s w φ σs ψ) → AreMade m s w φ σs ψ
 fork_done choices m s w φ ψ p input a b σs (Operations.fork apart) made = made apart
 
 pub join_done : (choices : List ℕ) (m : Component) (s : Content) (w : Choice) (φ ψ : Signals) (p a b out : ℕ) (pass : Side) (σs : List Signal) → IsOperationOf choices (operation.Join p a b out pass) m →
-    (a ≢ b → AreMade (Join a b out pass) s w φ σs ψ) → AreMade m s w φ σs ψ
+    (AreApart out a b → AreMade (Join a b out pass) s w φ σs ψ) → AreMade m s w φ σs ψ
 join_done choices m s w φ ψ p a b out pass σs (Operations.join apart) made = made apart
 
 pub switch_offers_done : (choices : List ℕ) (m : Component) (s : Content) (w : Choice) (φ ψ : Signals) (p input a b : ℕ) (σs : List Signal) → IsOperationOf choices (operation.SwitchOffers p input a b) m →
-    (a ≢ b → AreMade (Switch input a b (to_a_in m)) s w φ σs ψ) → AreMade m s w φ σs ψ
+    (AreApart input a b → AreMade (Switch input a b (to_a_in m)) s w φ σs ψ) → AreMade m s w φ σs ψ
 switch_offers_done choices m s w φ ψ p input a b σs (Operations.switch_offers apart) made = made apart
 
 pub switch_ready_done : (choices : List ℕ) (m : Component) (s : Content) (w : Choice) (φ ψ : Signals) (p input a b : ℕ) (σs : List Signal) → IsOperationOf choices (operation.SwitchReady p input a b) m →
@@ -147,7 +147,7 @@ pub switch_ready_done : (choices : List ℕ) (m : Component) (s : Content) (w : 
 switch_ready_done choices m s w φ ψ p input a b σs Operations.switch_ready made = made
 
 pub merge_done : (choices : List ℕ) (m : Component) (s : Content) (w : Choice) (φ ψ : Signals) (p a b out : ℕ) (σs : List Signal) → IsOperationOf choices (operation.Merge p a b out) m →
-    (a ≢ b → AreMade (Merge a b out) s w φ σs ψ) → AreMade m s w φ σs ψ
+    (AreApart out a b → AreMade (Merge a b out) s w φ σs ψ) → AreMade m s w φ σs ψ
 merge_done choices m s w φ ψ p a b out σs (Operations.merge apart) made = made apart
 
 -- where the choice of a source or a sink stands

@@ -2,7 +2,7 @@
 
 ghost use Rattle.std.specs.Prelude.{◌≡◌, ◌≢◌, ◌<◌, ◌≤◌, ◌&&◌, ◌||◌, [], ◌∷◌, ℕ, is_some, length, map, slice_get, List as Colours, Some};
 ghost use Rattle.xm_model.specs.Component.{Content, Fork, Function, Join, Merge, Queue, Sink, Source, Switch, component_of, content_of};
-ghost use Rattle.xm_model.specs.Signals.{at_side, grant, granted_offer, is_a, is_b, only_if, source_offer, through, to_side_a, to_side_b};
+ghost use Rattle.xm_model.specs.Signals.{at_side, grant, granted_offer, is_a, is_b, offer_chosen, only_if, source_offer, through, to_side_a, to_side_b};
 ghost use Rattle.xm_model.specs.Views.{choice_or, content_at, signals_of};
 ghost use Rattle.xm_model.specs.declared.primitive.SourceMode.TheVariants as source_mode;
 ghost use Rattle.xm_model.specs.declared.state.Choice.{Choice as Chosen};
@@ -10,7 +10,7 @@ ghost use Rattle.xm_order.specs.Dependence.{channel_of};
 ghost use Rattle.xm_order.specs.Settle.{ChangesOnly};
 ghost use Rattle.xm_order.specs.declared.signal.Signal.TheVariants as signal;
 ghost use Rattle.xm_plan.specs.Inner.Made.{AreMade, IsDone, SettlesOn};
-ghost use Rattle.xm_plan.specs.Inner.Operations.{AllFit, FitsOperation, Keeps, all_tasks, kept, table_a_in, table_b_in, table_in, to_a_in};
+ghost use Rattle.xm_plan.specs.Inner.Operations.{AllFit, AreApart, FitsOperation, Keeps, all_tasks, kept, table_a_in, table_b_in, table_in, to_a_in};
 ghost use Rattle.xm_plan.specs.Planned.{choice_for};
 ghost use Rattle.xm_plan.specs.Schedule.{ArePlaced, AreSettled, IsSchedule, LeavesOthers};
 ghost use Rattle.xm_plan.specs.declared.operation.Operation.{Operation as Op};
@@ -42,33 +42,50 @@ fn put_ready(wires: &mut [Wire], place: u32, ready: bool)
     wires[place as usize].ready = ready;
 }
 
-/// What a source offers that is not eager.
-fn plain_offer(mode: SourceMode, pending: Option<u8>, chosen: Option<u8>) -> Option<u8>
+/// What a source offers that is not eager. The row is read only where its choice counts.
+fn plain_offer(mode: SourceMode, pending: Option<u8>, row: &[Choice], place: u32) -> Option<u8>
     ensures { (colours : Colours ℕ) → mode ≢ source_mode.Eager
-        → result ≡ source_offer mode colours pending chosen }
+        → result ≡ source_offer mode colours pending (offer_chosen (choice_or (slice_get row.now place))) }
 {
     match mode {
-        SourceMode::Free => chosen,
-        SourceMode::Keep | SourceMode::Eager | SourceMode::Fair => pending.or(chosen),
+        SourceMode::Free => chosen_offer(choice_in_row(row, place)),
+        SourceMode::Keep | SourceMode::Eager | SourceMode::Fair => match pending {
+            Some(colour) => Some(colour),
+            None => chosen_offer(choice_in_row(row, place)),
+        },
     }
 }
 
-fn make_source<C: HasCell>(cell: &C, choice: Choice, out: u32, mode: SourceMode, wires: &mut [Wire])
+fn make_source<C: HasCell>(
+    cell: &C,
+    row: &[Choice],
+    place: u32,
+    out: u32,
+    mode: SourceMode,
+    wires: &mut [Wire],
+)
     requires { out < length wires.old }
     ensures { (colours : Colours ℕ) → mode ≢ source_mode.Eager
-        → AreMade (Source out colours mode) (content_of (C.cell cell.now)) choice (signals_of wires.old)
-        (signal.Offer out ∷ []) (signals_of wires.new) }
+        → AreMade (Source out colours mode) (content_of (C.cell cell.now)) (choice_or (slice_get row.now place))
+        (signals_of wires.old) (signal.Offer out ∷ []) (signals_of wires.new) }
 {
-    let offer = plain_offer(mode, cell.pending(), chosen_offer(choice));
+    let offer = plain_offer(mode, cell.pending(), row, place);
     put_offer(wires, out, offer);
 }
 
-fn make_sink<C: HasCell>(cell: &C, choice: Choice, input: u32, mode: SinkMode, wires: &mut [Wire])
+fn make_sink<C: HasCell>(
+    cell: &C,
+    row: &[Choice],
+    place: u32,
+    input: u32,
+    mode: SinkMode,
+    wires: &mut [Wire],
+)
     requires { input < length wires.old }
-    ensures { AreMade (Sink input mode) (content_of (C.cell cell.now)) choice (signals_of wires.old)
-        (signal.Ready input ∷ []) (signals_of wires.new) }
+    ensures { AreMade (Sink input mode) (content_of (C.cell cell.now)) (choice_or (slice_get row.now place))
+        (signals_of wires.old) (signal.Ready input ∷ []) (signals_of wires.new) }
 {
-    let ready = is_ready_sink(mode, cell.is_held(), choice);
+    let ready = is_ready_sink(mode, cell.is_held(), row, place);
     put_ready(wires, input, ready);
 }
 
@@ -79,8 +96,9 @@ fn make_queue<C: HasCell>(cell: &C, input: u32, out: u32, capacity: u32, wires: 
         → AreMade (Queue input out capacity initial) (content_of (C.cell cell.now)) w (signals_of wires.old)
         (signal.Offer out ∷ signal.Ready input ∷ []) (signals_of wires.new) }
 {
-    put_offer(wires, out, cell.oldest());
-    put_ready(wires, input, cell.count() < capacity as usize);
+    let (offer, ready) = (cell.oldest(), cell.count() < capacity as usize);
+    put_offer(wires, out, offer);
+    put_ready(wires, input, ready);
 }
 
 fn make_function(table: &[u8], input: u32, out: u32, wires: &mut [Wire])
@@ -106,17 +124,11 @@ fn kept_offer(colours: u32, offer: Option<u8>) -> Option<u8>
     }
 }
 
-/// What a fork whose maps keep their colours offers on one side, where the other is `other`.
-fn plain_fork_offer(wires: &[Wire], input: u32, other: u32, colours: u32) -> Option<u8>
-    requires input { input < length wires.now }
-    requires other { other < length wires.now }
-    ensures { result
-        ≡ only_if ((signals_of wires.now).ready other) (kept colours ((signals_of wires.now).offer input)) }
+/// Both, without a branch.
+fn both(a: bool, b: bool) -> bool
+    ensures { result ≡ (a && b) }
 {
-    only(
-        ready_in(wires, other),
-        kept_offer(colours, offer_in(wires, input)),
-    )
+    a & b
 }
 
 /// What a fork offers on one side, where the other is `other`.
@@ -142,15 +154,19 @@ fn make_plain_fork(input: u32, a: u32, b: u32, colours: u32, wires: &mut [Wire])
     requires input { input < length wires.old }
     requires a { a < length wires.old }
     requires b { b < length wires.old }
-    ensures { (ta tb : Colours ℕ) (s : Content) (w : Chosen) → a ≢ b → Keeps colours ta → Keeps colours tb
+    ensures { (ta tb : Colours ℕ) (s : Content) (w : Chosen) → AreApart input a b → Keeps colours ta → Keeps colours tb
         → AreMade (Fork input a b ta tb) s w (signals_of wires.old)
         (signal.Offer a ∷ signal.Offer b ∷ signal.Ready input ∷ []) (signals_of wires.new) }
 {
-    let offer_a = plain_fork_offer(wires, input, b, colours);
+    let given = offer_in(wires, input);
+    let at_a = ready_in(wires, a);
+    let at_b = ready_in(wires, b);
+    let offer = kept_offer(colours, given);
+    let offer_a = only(at_b, offer);
+    let offer_b = only(at_a, offer);
+    let ready = both(at_a, at_b);
     put_offer(wires, a, offer_a);
-    let offer_b = plain_fork_offer(wires, input, a, colours);
     put_offer(wires, b, offer_b);
-    let ready = both_ready(wires, a, b);
     put_ready(wires, input, ready);
 }
 
@@ -158,7 +174,7 @@ fn make_fork(map_a: &[u8], map_b: &[u8], input: u32, a: u32, b: u32, wires: &mut
     requires input { input < length wires.old }
     requires a { a < length wires.old }
     requires b { b < length wires.old }
-    ensures { (s : Content) (w : Chosen) → a ≢ b
+    ensures { (s : Content) (w : Chosen) → AreApart input a b
         → AreMade (Fork input a b map_a.now map_b.now) s w (signals_of wires.old)
         (signal.Offer a ∷ signal.Offer b ∷ signal.Ready input ∷ []) (signals_of wires.new) }
 {
@@ -170,37 +186,22 @@ fn make_fork(map_a: &[u8], map_b: &[u8], input: u32, a: u32, b: u32, wires: &mut
     put_ready(wires, input, ready);
 }
 
-fn join_offer(wires: &[Wire], a: u32, b: u32, pass: Side) -> Option<u8>
-    requires a { a < length wires.now }
-    requires b { b < length wires.now }
-    ensures { result ≡ only_if (is_some ((signals_of wires.now).offer a) && is_some ((signals_of wires.now).offer b))
-        (at_side pass ((signals_of wires.now).offer a) ((signals_of wires.now).offer b)) }
-{
-    joined(pass, offer_in(wires, a), offer_in(wires, b))
-}
-
-/// Whether a join is ready on one side, where the other is `other`.
-fn join_ready(wires: &[Wire], out: u32, other: u32) -> bool
-    requires out { out < length wires.now }
-    requires other { other < length wires.now }
-    ensures { result ≡ ((signals_of wires.now).ready out && is_some ((signals_of wires.now).offer other)) }
-{
-    ready_in(wires, out) && offer_in(wires, other).is_some()
-}
-
 fn make_join(a: u32, b: u32, out: u32, pass: Side, wires: &mut [Wire])
     requires a { a < length wires.old }
     requires b { b < length wires.old }
     requires out { out < length wires.old }
-    ensures { (s : Content) (w : Chosen) → a ≢ b
+    ensures { (s : Content) (w : Chosen) → AreApart out a b
         → AreMade (Join a b out pass) s w (signals_of wires.old)
         (signal.Offer out ∷ signal.Ready a ∷ signal.Ready b ∷ []) (signals_of wires.new) }
 {
-    let offer = join_offer(wires, a, b, pass);
+    let x = offer_in(wires, a);
+    let y = offer_in(wires, b);
+    let at_out = ready_in(wires, out);
+    let offer = joined(pass, x, y);
+    let ready_a = both(at_out, y.is_some());
+    let ready_b = both(at_out, x.is_some());
     put_offer(wires, out, offer);
-    let ready_a = join_ready(wires, out, b);
     put_ready(wires, a, ready_a);
-    let ready_b = join_ready(wires, out, a);
     put_ready(wires, b, ready_b);
 }
 
@@ -208,13 +209,14 @@ fn make_switch_offers(to_a: &[bool], input: u32, a: u32, b: u32, wires: &mut [Wi
     requires input { input < length wires.old }
     requires a { a < length wires.old }
     requires b { b < length wires.old }
-    ensures { (s : Content) (w : Chosen) → a ≢ b
+    ensures { (s : Content) (w : Chosen) → AreApart input a b
         → AreMade (Switch input a b to_a.now) s w (signals_of wires.old)
         (signal.Offer a ∷ signal.Offer b ∷ []) (signals_of wires.new) }
 {
-    let offer_a = on_side_a(to_a, offer_in(wires, input));
+    let given = offer_in(wires, input);
+    let offer_a = on_side_a(to_a, given);
+    let offer_b = on_side_b(to_a, given);
     put_offer(wires, a, offer_a);
-    let offer_b = on_side_b(to_a, offer_in(wires, input));
     put_offer(wires, b, offer_b);
 }
 
@@ -243,53 +245,23 @@ fn make_switch_ready(to_a: &[bool], input: u32, a: u32, b: u32, wires: &mut [Wir
     put_ready(wires, input, ready);
 }
 
-fn merge_offer(side: Side, wires: &[Wire], a: u32, b: u32) -> Option<u8>
-    requires a { a < length wires.now }
-    requires b { b < length wires.now }
-    ensures { result
-        ≡ granted_offer (grant side ((signals_of wires.now).offer a) ((signals_of wires.now).offer b))
-        ((signals_of wires.now).offer a) ((signals_of wires.now).offer b) }
-{
-    let (x, y) = (offer_in(wires, a), offer_in(wires, b));
-    taken_from(granted(side, x, y), x, y)
-}
-
-fn merge_ready_a(side: Side, wires: &[Wire], a: u32, b: u32, out: u32) -> bool
-    requires a { a < length wires.now }
-    requires b { b < length wires.now }
-    requires out { out < length wires.now }
-    ensures { result
-        ≡ (is_a (grant side ((signals_of wires.now).offer a) ((signals_of wires.now).offer b))
-        && (signals_of wires.now).ready out) }
-{
-    is_side_a(granted(side, offer_in(wires, a), offer_in(wires, b))) && ready_in(wires, out)
-}
-
-fn merge_ready_b(side: Side, wires: &[Wire], a: u32, b: u32, out: u32) -> bool
-    requires a { a < length wires.now }
-    requires b { b < length wires.now }
-    requires out { out < length wires.now }
-    ensures { result
-        ≡ (is_b (grant side ((signals_of wires.now).offer a) ((signals_of wires.now).offer b))
-        && (signals_of wires.now).ready out) }
-{
-    is_side_b(granted(side, offer_in(wires, a), offer_in(wires, b))) && ready_in(wires, out)
-}
-
 fn make_merge<C: HasCell>(cell: &C, a: u32, b: u32, out: u32, wires: &mut [Wire])
     requires a { a < length wires.old }
     requires b { b < length wires.old }
     requires out { out < length wires.old }
-    ensures { (w : Chosen) → a ≢ b
+    ensures { (w : Chosen) → AreApart out a b
         → AreMade (Merge a b out) (content_of (C.cell cell.now)) w (signals_of wires.old)
         (signal.Offer out ∷ signal.Ready a ∷ signal.Ready b ∷ []) (signals_of wires.new) }
 {
-    let side = cell.preferred();
-    let offer = merge_offer(side, wires, a, b);
+    let x = offer_in(wires, a);
+    let y = offer_in(wires, b);
+    let at_out = ready_in(wires, out);
+    let side = granted(cell.preferred(), x, y);
+    let offer = taken_from(side, x, y);
+    let ready_a = both(is_side_a(side), at_out);
+    let ready_b = both(is_side_b(side), at_out);
     put_offer(wires, out, offer);
-    let ready_a = merge_ready_a(side, wires, a, b, out);
     put_ready(wires, a, ready_a);
-    let ready_b = merge_ready_b(side, wires, a, b, out);
     put_ready(wires, b, ready_b);
 }
 
@@ -378,25 +350,13 @@ fn make<C: HasCell>(
             out,
             choice,
             mode,
-        } => make_source(
-            &cells[prim as usize],
-            choice_in_row(row, choice),
-            out,
-            mode,
-            wires,
-        ),
+        } => make_source(&cells[prim as usize], row, choice, out, mode, wires),
         Operation::Sink {
             prim,
             input,
             choice,
             mode,
-        } => make_sink(
-            &cells[prim as usize],
-            choice_in_row(row, choice),
-            input,
-            mode,
-            wires,
-        ),
+        } => make_sink(&cells[prim as usize], row, choice, input, mode, wires),
         Operation::Queue {
             prim,
             input,

@@ -2,7 +2,7 @@
 
 ghost use Rattle.std.specs.Prelude.{◌≡◌, ◌<◌, [], ◌∷◌, ◌++◌, ℕ, length, map, IfSome, IsTrue, List as Colours, OnOk};
 ghost use Rattle.xm_model.specs.Component.{Fork, Join, Merge, Sink, Source, component_of};
-ghost use Rattle.xm_plan.specs.Inner.Operations.{FitsOperation, Keeps, Operates, task_of, tasks_of};
+ghost use Rattle.xm_plan.specs.Inner.Operations.{AreApart, FitsOperation, Keeps, Operates, task_of, tasks_of};
 
 use crate::check::is_maker;
 use xm_design::Task;
@@ -100,6 +100,13 @@ fn is_identity(table: &[u8]) -> bool
     true
 }
 
+/// Whether these are three places.
+fn are_apart(x: u32, a: u32, b: u32) -> bool
+    ensures { IsTrue result → AreApart x a b }
+{
+    a != b && a != x && b != x
+}
+
 /// The operation for the signal of a source. One that is eager has none, since it needs its colours.
 fn source_operation(prim: u32, out: u32, mode: SourceMode, choices: &[u32]) -> Option<Operation>
     ensures { (colours : Colours ℕ) → IfSome result (Operates choices.now prim (Source out colours mode)) }
@@ -144,7 +151,7 @@ fn fork_operation(
 ) -> Option<Operation>
     ensures { (choices : Colours ℕ) → IfSome result (Operates choices prim (Fork input a b map_a.now map_b.now)) }
 {
-    if a == b {
+    if !are_apart(input, a, b) {
         return None;
     }
     let colours = map_a.len();
@@ -163,7 +170,7 @@ fn fork_operation(
 fn join_operation(prim: u32, a: u32, b: u32, out: u32, pass: Side) -> Option<Operation>
     ensures { (choices : Colours ℕ) → IfSome result (Operates choices prim (Join a b out pass)) }
 {
-    if a == b {
+    if !are_apart(out, a, b) {
         return None;
     }
     Some(Operation::Join {
@@ -178,7 +185,7 @@ fn join_operation(prim: u32, a: u32, b: u32, out: u32, pass: Side) -> Option<Ope
 fn merge_operation(prim: u32, a: u32, b: u32, out: u32) -> Option<Operation>
     ensures { (choices : Colours ℕ) → IfSome result (Operates choices prim (Merge a b out)) }
 {
-    if a == b {
+    if !are_apart(out, a, b) {
         return None;
     }
     Some(Operation::Merge { prim, a, b, out })
@@ -226,7 +233,7 @@ fn offers_operation(p: u32, prim: &Prim) -> Option<Operation>
 {
     match prim {
         Prim::Switch { input, a, b, .. } => {
-            if *a == *b {
+            if !are_apart(*input, *a, *b) {
                 return None;
             }
             Some(Operation::SwitchOffers {

@@ -1,10 +1,10 @@
 //! The rows of a seeded tape: draws of a linear congruential generator.
 
-ghost use Rattle.std.specs.Prelude.{◌≡◌, ◌+◌, ◌*◌, ◌<◌, ◌≤◌, [], ◌∷◌, ◌++◌, length, map};
+ghost use Rattle.std.specs.Prelude.{◌≡◌, ◌+◌, ◌*◌, ◌<◌, length, map};
 ghost use Rattle.xm_model.specs.Component.{component_of};
 ghost use Rattle.xm_tape.specs.Draws as spec;
 
-use xm_model::{Choice, List, Prim};
+use xm_model::{Choice, Prim};
 
 const MULTIPLIER: u64 = 6364136223846793005;
 
@@ -51,27 +51,19 @@ fn choice_drawn(prim: &Prim, number: u64) -> Choice
     }
 }
 
-/// Appends a choice. There is room for it.
-fn push_within(row: &mut List<Choice>, choice: Choice)
-    requires { length row.old.items < row.old.room }
-    ensures items { row.new.items ≡ row.old.items ++ choice ∷ [] }
-    ensures room { row.new.room ≡ row.old.room }
-{
-    let _ = row.push(choice);
-}
-
-/// Makes the row after a number, in place of the old one, and gives the number after the row. There is room for it.
-pub fn draw_row(row: &mut List<Choice>, oracles: &[Prim], before: u64) -> u64
-    requires { length oracles.now ≤ row.old.room }
-    ensures row { row.new.items ≡ spec.row_drawn (map component_of oracles.now) before }
+/// Makes the row after a number, in place of another one, and gives the number after the row. It is not inlined:
+/// within its one caller the compiler keeps the variables of this loop on the stack, which cost time in every
+/// cycle (measured with callgrind).
+#[inline(never)]
+pub fn draw_row(row: &mut [Choice], oracles: &[Prim], before: u64) -> u64
+    requires { length row.old ≡ length oracles.now }
+    ensures row { row.new ≡ spec.row_drawn (map component_of oracles.now) before }
     ensures number { result ≡ spec.number_after (length oracles.now) before }
-    ensures room { row.new.room ≡ row.old.room }
 {
-    row.truncate(0);
     let mut number = before;
-    for prim in oracles {
+    for k in 0..oracles.len() {
         number = next_number(number);
-        push_within(row, choice_drawn(prim, number));
+        row[k] = choice_drawn(&oracles[k], number);
     }
     number
 }

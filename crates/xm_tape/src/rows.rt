@@ -1,6 +1,6 @@
 //! The rows of a tape, one after another.
 
-ghost use Rattle.std.specs.Prelude.{◌≡◌, ℕ, [], ◌+◌, ◌≤◌, IfOk};
+ghost use Rattle.std.specs.Prelude.{◌≡◌, ℕ, ◌+◌, length, IfOk};
 ghost use Rattle.xm_tape.specs.Inner.Forms as spec;
 
 use crate::drawn::DrawnTape;
@@ -28,7 +28,7 @@ pub struct Rows<'t> {
 }
 
 impl<'t> Model for Rows<'t> {
-    ghost use Rattle.std.specs.Prelude.{◌≡◌, ◌≤◌, ◌+◌};
+    ghost use Rattle.std.specs.Prelude.{◌≡◌, ◌+◌, length};
     ghost use Rattle.xm_tape.specs.Place.{Place};
 
     ghost Value = { Place };
@@ -38,7 +38,7 @@ impl<'t> Model for Rows<'t> {
     ghost view = { λ it. record { tape = taped_of it.form.now; cycle = it.cycle } };
 
     ghost invariant = { λ it. (it.number ≡ number_at it.form.now (it.cycle + 1))
-        × ((it.row.items ≡ drawn_row it.form.now it.cycle) × (width_drawn it.form.now ≤ it.row.room)) };
+        × ((it.row.items ≡ drawn_row it.form.now it.cycle) × (length it.row.items ≡ width_drawn it.form.now)) };
 }
 
 /// The number after which the row of this cycle is drawn.
@@ -51,35 +51,35 @@ fn number_at(form: &Form, cycle: u32) -> u64
     }
 }
 
-/// An empty row with room for the choices that are made in place.
+/// A row for the choices that are drawn in place.
 fn row_for(alloc: Global, form: &Form) -> Result<List<Choice>, OutOfMemory>
-    ensures items { IfOk result (λ row. row.items ≡ []) }
-    ensures room { IfOk result (λ row. spec.width_drawn form.now ≤ row.room) }
+    ensures { IfOk result (λ row. length row.items ≡ spec.width_drawn form.now) }
 {
-    let mut row = List::new(alloc);
-    if let Form::Drawn(tape) = form {
-        let width = tape.oracles.len();
-        if width > u32::MAX as usize {
-            return Err(OutOfMemory);
+    match form {
+        Form::Written(_) => Ok(List::new(alloc)),
+        Form::Drawn(tape) => {
+            let width = tape.oracles.len();
+            if width > u32::MAX as usize {
+                return Err(OutOfMemory);
+            }
+            List::filled(alloc, Choice::Ready(false), width as u32)
         }
-        row.reserve(width as u32)?;
     }
-    Ok(row)
 }
 
 /// Makes the row that is drawn after a number, if it is drawn, and gives the number after it.
 fn make_row(form: &Form, number: u64, row: &mut List<Choice>) -> u64
-    requires room { spec.width_drawn form.now ≤ row.old.room }
+    requires width { length row.old.items ≡ spec.width_drawn form.now }
     ensures row { (t : ℕ) → number ≡ spec.number_at form.now t → row.new.items ≡ spec.drawn_row form.now t }
     ensures number { (t : ℕ) → number ≡ spec.number_at form.now t → result ≡ spec.number_at form.now (t + 1) }
-    ensures room { row.new.room ≡ row.old.room }
+    ensures width { length row.new.items ≡ spec.width_drawn form.now }
 {
     match form {
         Form::Written(_) => {
             row.truncate(0);
             0
         }
-        Form::Drawn(tape) => draw_row(row, tape.oracles.as_slice(), number),
+        Form::Drawn(tape) => draw_row(row.as_mut_slice(), tape.oracles.as_slice(), number),
     }
 }
 

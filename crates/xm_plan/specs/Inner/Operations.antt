@@ -22,6 +22,10 @@ kept n (Some d) = Some (cond (nat_lt d n) d 0)
 abbrev pub Keeps : ℕ → List ℕ → Type 0
 Keeps n table = (d : ℕ) → slice_index table d ≡ cond (nat_lt d n) d 0
 
+-- three places, each another
+abbrev pub AreApart : ℕ → ℕ → ℕ → Type 0
+AreApart x a b = (a ≢ b) × ((a ≢ x) × (b ≢ x))
+
 abbrev pub prim_of : Operation → ℕ
 prim_of (operation.Source p _ _ _) = p
 prim_of (operation.Sink p _ _ _) = p
@@ -85,17 +89,17 @@ pub data IsOperationOf : List ℕ → Operation → Component → Type 0 where
       IsOperationOf choices (operation.Queue p input out capacity) (Queue input out capacity initial)
   function : {choices : List ℕ} {p input out : ℕ} {table : List ℕ} →
       IsOperationOf choices (operation.Function p input out) (Function input out table)
-  fork_plain : {choices : List ℕ} {p input a b n : ℕ} {ta tb : List ℕ} → a ≢ b → Keeps n ta → Keeps n tb →
+  fork_plain : {choices : List ℕ} {p input a b n : ℕ} {ta tb : List ℕ} → AreApart input a b → Keeps n ta → Keeps n tb →
       IsOperationOf choices (operation.ForkPlain p input a b n) (Fork input a b ta tb)
-  fork : {choices : List ℕ} {p input a b : ℕ} {ta tb : List ℕ} → a ≢ b →
+  fork : {choices : List ℕ} {p input a b : ℕ} {ta tb : List ℕ} → AreApart input a b →
       IsOperationOf choices (operation.Fork p input a b) (Fork input a b ta tb)
-  join : {choices : List ℕ} {p a b out : ℕ} {pass : Side} → a ≢ b →
+  join : {choices : List ℕ} {p a b out : ℕ} {pass : Side} → AreApart out a b →
       IsOperationOf choices (operation.Join p a b out pass) (Join a b out pass)
-  switch_offers : {choices : List ℕ} {p input a b : ℕ} {to_a : List Bool} → a ≢ b →
+  switch_offers : {choices : List ℕ} {p input a b : ℕ} {to_a : List Bool} → AreApart input a b →
       IsOperationOf choices (operation.SwitchOffers p input a b) (Switch input a b to_a)
   switch_ready : {choices : List ℕ} {p input a b : ℕ} {to_a : List Bool} →
       IsOperationOf choices (operation.SwitchReady p input a b) (Switch input a b to_a)
-  merge : {choices : List ℕ} {p a b out : ℕ} → a ≢ b →
+  merge : {choices : List ℕ} {p a b out : ℕ} → AreApart out a b →
       IsOperationOf choices (operation.Merge p a b out) (Merge a b out)
   one : {choices : List ℕ} {m : Component} {task : Task} → IsMaker m task.signal →
       IsOperationOf choices (operation.One task) m

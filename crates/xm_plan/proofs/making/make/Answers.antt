@@ -1,6 +1,6 @@
-use Rattle.std.proofs.Common.{map, refl, ap, ◌∙◌, arith}
+use Rattle.std.proofs.Common.{map, refl, ap, ◌∙◌, arith, slice_get}
 use Rattle.xm_model.specs.Component.{component_of, content_of}
-use Rattle.xm_model.specs.Views.{content_at, signals_of}
+use Rattle.xm_model.specs.Views.{choice_or, content_at, signals_of}
 use Rattle.xm_plan.proofs.Operating.{cell_read, component_read, done_from, fork_done, fork_plain_done, function_done, join_done, merge_done, places_below, prim_within, queue_done, sink_choice, sink_done, source_choice, source_done, switch_offers_done, switch_ready_done}
 use Rattle.xm_plan.proofs.Places.{choice_read}
 use Rattle.xm_plan.specs.Inner.Operations.{signals_made, table_a_in, table_b_in, table_in, to_a_in}
@@ -138,15 +138,15 @@ pub returns-in-Source : goal.returns-in-Source
 returns-in-Source g c =
     let op : Operation = (operation.Source c.in-Source.prim c.in-Source.out c.in-Source.choice c.in-Source.mode) in
     let fits = rw c.in-Source.is at c.requires.fits in
-    rw c.in-Source.is (done_from (map component_of c.args.prims.now) c.args.choices.now (content_at (map g.C.HasCell.cell c.args.cells.now)) (choice_for c.args.choices.now c.args.row.now) (signals_of c.args.wires.now) (signals_of c.make_source.new.wires) op fits (content_of (g.C.HasCell.cell c.index-cells-prim.result)) c.choice_in_row.result (cell_read g.C.HasCell.cell c.args.cells.now c.in-Source.prim c.index-cells-prim.result (let h = prim_within c.args.prims.now c.args.choices.now op fits in omega arith) c.index-cells-prim.is) (c.choice_in_row.ensures ∙ choice_read c.args.choices.now c.args.row.now c.in-Source.prim c.in-Source.choice (source_choice c.args.choices.now fits.prim c.in-Source.prim c.in-Source.out c.in-Source.choice c.in-Source.mode fits.is))
-    (source_done c.args.choices.now fits.prim (content_of (g.C.HasCell.cell c.index-cells-prim.result)) c.choice_in_row.result (signals_of c.args.wires.now) (signals_of c.make_source.new.wires) c.in-Source.prim c.in-Source.out c.in-Source.choice c.in-Source.mode fits.is c.make_source.ensures))
+    rw c.in-Source.is (done_from (map component_of c.args.prims.now) c.args.choices.now (content_at (map g.C.HasCell.cell c.args.cells.now)) (choice_for c.args.choices.now c.args.row.now) (signals_of c.args.wires.now) (signals_of c.make_source.new.wires) op fits (content_of (g.C.HasCell.cell c.index-cells-prim.result)) (choice_or (slice_get c.args.row.now c.in-Source.choice)) (cell_read g.C.HasCell.cell c.args.cells.now c.in-Source.prim c.index-cells-prim.result (let h = prim_within c.args.prims.now c.args.choices.now op fits in omega arith) c.index-cells-prim.is) (choice_read c.args.choices.now c.args.row.now c.in-Source.prim c.in-Source.choice (source_choice c.args.choices.now fits.prim c.in-Source.prim c.in-Source.out c.in-Source.choice c.in-Source.mode fits.is))
+    (source_done c.args.choices.now fits.prim (content_of (g.C.HasCell.cell c.index-cells-prim.result)) (choice_or (slice_get c.args.row.now c.in-Source.choice)) (signals_of c.args.wires.now) (signals_of c.make_source.new.wires) c.in-Source.prim c.in-Source.out c.in-Source.choice c.in-Source.mode fits.is c.make_source.ensures))
 
 pub returns-in-Sink : goal.returns-in-Sink
 returns-in-Sink g c =
     let op : Operation = (operation.Sink c.in-Sink.prim c.in-Sink.input c.in-Sink.choice c.in-Sink.mode) in
     let fits = rw c.in-Sink.is at c.requires.fits in
-    rw c.in-Sink.is (done_from (map component_of c.args.prims.now) c.args.choices.now (content_at (map g.C.HasCell.cell c.args.cells.now)) (choice_for c.args.choices.now c.args.row.now) (signals_of c.args.wires.now) (signals_of c.make_sink.new.wires) op fits (content_of (g.C.HasCell.cell c.index-cells-prim-in-Sink.result)) c.choice_in_row-in-Sink.result (cell_read g.C.HasCell.cell c.args.cells.now c.in-Sink.prim c.index-cells-prim-in-Sink.result (let h = prim_within c.args.prims.now c.args.choices.now op fits in omega arith) c.index-cells-prim-in-Sink.is) (c.choice_in_row-in-Sink.ensures ∙ choice_read c.args.choices.now c.args.row.now c.in-Sink.prim c.in-Sink.choice (sink_choice c.args.choices.now fits.prim c.in-Sink.prim c.in-Sink.input c.in-Sink.choice c.in-Sink.mode fits.is))
-    (sink_done c.args.choices.now fits.prim (content_of (g.C.HasCell.cell c.index-cells-prim-in-Sink.result)) c.choice_in_row-in-Sink.result (signals_of c.args.wires.now) (signals_of c.make_sink.new.wires) c.in-Sink.prim c.in-Sink.input c.in-Sink.choice c.in-Sink.mode fits.is c.make_sink.ensures))
+    rw c.in-Sink.is (done_from (map component_of c.args.prims.now) c.args.choices.now (content_at (map g.C.HasCell.cell c.args.cells.now)) (choice_for c.args.choices.now c.args.row.now) (signals_of c.args.wires.now) (signals_of c.make_sink.new.wires) op fits (content_of (g.C.HasCell.cell c.index-cells-prim-in-Sink.result)) (choice_or (slice_get c.args.row.now c.in-Sink.choice)) (cell_read g.C.HasCell.cell c.args.cells.now c.in-Sink.prim c.index-cells-prim-in-Sink.result (let h = prim_within c.args.prims.now c.args.choices.now op fits in omega arith) c.index-cells-prim-in-Sink.is) (choice_read c.args.choices.now c.args.row.now c.in-Sink.prim c.in-Sink.choice (sink_choice c.args.choices.now fits.prim c.in-Sink.prim c.in-Sink.input c.in-Sink.choice c.in-Sink.mode fits.is))
+    (sink_done c.args.choices.now fits.prim (content_of (g.C.HasCell.cell c.index-cells-prim-in-Sink.result)) (choice_or (slice_get c.args.row.now c.in-Sink.choice)) (signals_of c.args.wires.now) (signals_of c.make_sink.new.wires) c.in-Sink.prim c.in-Sink.input c.in-Sink.choice c.in-Sink.mode fits.is c.make_sink.ensures))
 
 pub returns-in-Queue : goal.returns-in-Queue
 returns-in-Queue g c =

@@ -12,7 +12,7 @@ returns c = λ s w apart. (
     (
       signals_of c.put_offer-2.new.wires,
       (
-        record { value = c.put_offer-2.ensures.value ∙ c.fork_offer-offer_b.ensures ∙ sym (at_second c.args.a c.args.b _ _ (not_first c.args.a c.args.b apart)); only = c.put_offer-2.ensures.only },
+        record { value = c.put_offer-2.ensures.value ∙ c.fork_offer-offer_b.ensures ∙ sym (at_second c.args.a c.args.b _ _ (not_first c.args.a c.args.b apart.0)); only = c.put_offer-2.ensures.only },
         (signals_of c.put_ready.new.wires, (record { value = c.put_ready.ensures.value ∙ c.both_ready-ready.ensures; only = c.put_ready.ensures.only }, refl)),
       ),
     ),

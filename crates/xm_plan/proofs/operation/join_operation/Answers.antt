@@ -3,4 +3,4 @@ use Rattle.xm_plan.specs.Inner.Operations.{join}
 use Rattle.xm_plan.proofs.operation.join_operation.Goals as goal
 
 pub returns : goal.returns
-returns c = λ choices. (refl, join c.if-a-b.false)
+returns c = λ choices. (refl, join (c.if-not-are_apart.ensures refl))
