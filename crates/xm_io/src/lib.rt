@@ -2,8 +2,10 @@
 #![tactic(auto)]
 
 mod adapters;
+mod gate;
 mod memory_sink;
 mod memory_source;
+mod no_sink;
 mod transfer;
 mod words;
 
@@ -14,8 +16,10 @@ ghost use Rattle.std.specs.Io.KnownBytes.{ReadConsumes, WriteAppends};
 ghost use Rattle.xm_io.specs.Faults.{HasCause};
 
 pub use adapters::{Counted, StdSink, StdSource};
+pub use gate::{Gate, OpenGate};
 pub use memory_sink::MemSink;
 pub use memory_source::{CleanSource, MemSource};
+pub use no_sink::NoSink;
 pub use transfer::{ReadFault, read_all, write_all};
 pub use words::Words;
 
