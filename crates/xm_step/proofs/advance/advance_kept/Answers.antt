@@ -6,7 +6,7 @@ use Rattle.xm_step.specs.Inner.Kinds.{AreKindsTo}
 use Rattle.xm_step.specs.declared.kinds.Holder.{Holder}
 use Rattle.xm_step.specs.declared.kinds.Holding.TheVariants as holding
 use Rattle.xm_step.specs.declared.kinds.QueuePlace.{QueuePlace}
-use Rattle.xm_step.proofs.Going.{all_gone, both_from_queues}
+use Rattle.xm_step.proofs.Going.{all_gone, both_from_queues, pass_has_room, pass_went, queue_placed}
 use Rattle.xm_step.proofs.Mapped.{other_can_by, other_gone_by, other_within_by, queue_can_by, queue_gone_by, queue_within_by, same_length}
 use Rattle.xm_step.proofs.advance.advance_kept.Goals as goal
 
@@ -21,13 +21,28 @@ bounds-cells-queue g c =
 pub offset_bounds-cells-queue : goal.offset_bounds-cells-queue
 offset_bounds-cells-queue g c = let within = bounds-cells-queue g c in search rules
 
-pub advance_queue_cell-requires : goal.advance_queue_cell-requires
-advance_queue_cell-requires g c =
+pub moved_in-leaves-requires : goal.moved_in-leaves-requires
+moved_in-leaves-requires g c =
     let ms : List Component = c.args.evaluator.now.net.prims in
     let kinds : AreKindsTo ms (length ms) c.as_slice-queues.result.now c.as_slice-others.result.now = rw (c.as_slice-queues.ensures, c.as_slice-others.ensures) c.kinds-kinds.ensures in
     let it : QueuePlace = get_or c.as_slice-queues.result.now c.loop-k.k (record { prim = 0; input = 0; out = 0 }) in
-    queue_can_by g.C.HasCell.cell ms c.args.cells.now (signals_of c.args.wires.now) c.as_slice-queues.result.now c.as_slice-others.result.now (length ms) kinds c.requires.roomy c.requires.guarded (sym c.requires.roomy.whole)
-    c.loop-k.cells c.loop-k.auto.cells c.loop-k.k it (slice_get-get_or c.as_slice-queues.result.now c.loop-k.k (record { prim = 0; input = 0; out = 0 }) c.loop-k-test.true) c.loop-k.invariant c.index-cells-queue.result
+    (queue_placed ms (length ms) c.as_slice-queues.result.now c.as_slice-others.result.now kinds _ c.requires.placed c.loop-k.k it (slice_get-get_or c.as_slice-queues.result.now c.loop-k.k (record { prim = 0; input = 0; out = 0 }) c.loop-k-test.true)).1
+
+pub moved_in-comes-requires : goal.moved_in-comes-requires
+moved_in-comes-requires g c =
+    let ms : List Component = c.args.evaluator.now.net.prims in
+    let kinds : AreKindsTo ms (length ms) c.as_slice-queues.result.now c.as_slice-others.result.now = rw (c.as_slice-queues.ensures, c.as_slice-others.ensures) c.kinds-kinds.ensures in
+    let it : QueuePlace = get_or c.as_slice-queues.result.now c.loop-k.k (record { prim = 0; input = 0; out = 0 }) in
+    (queue_placed ms (length ms) c.as_slice-queues.result.now c.as_slice-others.result.now kinds _ c.requires.placed c.loop-k.k it (slice_get-get_or c.as_slice-queues.result.now c.loop-k.k (record { prim = 0; input = 0; out = 0 }) c.loop-k-test.true)).0
+
+pub pass_any-requires : goal.pass_any-requires
+pass_any-requires g c =
+    let ms : List Component = c.args.evaluator.now.net.prims in
+    let kinds : AreKindsTo ms (length ms) c.as_slice-queues.result.now c.as_slice-others.result.now = rw (c.as_slice-queues.ensures, c.as_slice-others.ensures) c.kinds-kinds.ensures in
+    let it : QueuePlace = get_or c.as_slice-queues.result.now c.loop-k.k (record { prim = 0; input = 0; out = 0 }) in
+    let can = queue_can_by g.C.HasCell.cell ms c.args.cells.now (signals_of c.args.wires.now) c.as_slice-queues.result.now c.as_slice-others.result.now (length ms) kinds c.requires.roomy c.requires.guarded (sym c.requires.roomy.whole)
+    c.loop-k.cells c.loop-k.auto.cells c.loop-k.k it (slice_get-get_or c.as_slice-queues.result.now c.loop-k.k (record { prim = 0; input = 0; out = 0 }) c.loop-k-test.true) c.loop-k.invariant c.index-cells-queue.result in
+    pass_has_room it.input it.out can.0 _ (signals_of c.args.wires.now) _ c.moved_in-comes.ensures can.1
 
 pub loop-k-preserved : goal.loop-k-preserved
 loop-k-preserved g c =
@@ -35,7 +50,8 @@ loop-k-preserved g c =
     let kinds : AreKindsTo ms (length ms) c.as_slice-queues.result.now c.as_slice-others.result.now = rw (c.as_slice-queues.ensures, c.as_slice-others.ensures) c.kinds-kinds.ensures in
     let it : QueuePlace = get_or c.as_slice-queues.result.now c.loop-k.k (record { prim = 0; input = 0; out = 0 }) in
     queue_gone_by g.C.HasCell.cell ms c.args.cells.now (signals_of c.args.wires.now) c.as_slice-queues.result.now c.as_slice-others.result.now (length ms) kinds c.requires.roomy c.requires.guarded (sym c.requires.roomy.whole)
-    c.loop-k.cells c.loop-k.auto.cells c.loop-k.k it (slice_get-get_or c.as_slice-queues.result.now c.loop-k.k (record { prim = 0; input = 0; out = 0 }) c.loop-k-test.true) c.loop-k.invariant c.index-cells-queue.result c.advance_queue_cell.new.cell c.advance_queue_cell.ensures
+    c.loop-k.cells c.loop-k.auto.cells c.loop-k.k it (slice_get-get_or c.as_slice-queues.result.now c.loop-k.k (record { prim = 0; input = 0; out = 0 }) c.loop-k-test.true) c.loop-k.invariant c.index-cells-queue.result c.pass_any.new.cell
+    (λ capacity initial can. pass_went it.input it.out capacity initial _ _ (signals_of c.args.wires.now) _ _ c.moved_in-leaves.ensures c.moved_in-comes.ensures c.pass_any.ensures can)
 
 pub loop-i-init : goal.loop-i-init
 loop-i-init g c =

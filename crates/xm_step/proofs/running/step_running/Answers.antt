@@ -1,4 +1,4 @@
-use Rattle.std.proofs.Common.{length, sym, ap, subst, ◌∙◌}
+use Rattle.std.proofs.Common.{◌≡◌, ℕ, length, sym, ap, subst, ◌∙◌}
 use Rattle.std.proofs.lemmas.List.{map-id}
 use Rattle.xm_model.specs.Component.{Content}
 use Rattle.xm_model.specs.Frame.{IsFrame}
@@ -6,7 +6,9 @@ use Rattle.xm_model.specs.Lending.{refill-full}
 use Rattle.xm_model.specs.Next.{FitsContent}
 use Rattle.xm_model.specs.Views.{IsNextOf, choice_at, content_at, signals_of}
 use Rattle.xm_step.specs.Inner.Cells.{AllAdvance, KeptAdvance}
+use Rattle.xm_plan.specs.Schedule.{ArePlaced}
 use Rattle.xm_step.proofs.Keeping.{still_went}
+use Rattle.xm_step.proofs.Planning.{placed_in}
 use Rattle.xm_step.specs.Roomy.{IsRoomy, SameRooms}
 use Rattle.xm_step.proofs.Advancing.{guarded_from_frame, next_from_cells}
 use Rattle.xm_step.proofs.running.step_running.Goals as goal
@@ -16,6 +18,13 @@ advance_kept-requires-clause-guarded c =
     let full = refill-full (length c.args.frame.now.wires.items) c.args.frame.now.wires.items c.solve.new.wires (c.solve.auto.wires ∙ ap length c.as_mut_slice.ensures.value) in
     let made : IsFrame c.args.evaluator.now.net (content_at c.args.running.now.slots.items) (choice_at c.args.evaluator.now.net.prims c.args.choices.now) (signals_of c.solve.new.wires) = rw (map-id c.as_slice.result.now, c.as_slice.ensures) at c.solve.ensures.frame in
     rw (map-id c.as_mut_slice-2.result.now, c.as_mut_slice-2.ensures.value, c.as_slice-2.ensures, full) (guarded_from_frame c.args.evaluator.now.net c.args.running.now.slots.items c.solve.new.wires (record { choices = choice_at c.args.evaluator.now.net.prims c.args.choices.now; frame = made }))
+
+pub advance_kept-requires-clause-placed : goal.advance_kept-requires-clause-placed
+advance_kept-requires-clause-placed c =
+    let net = c.args.evaluator.now.net in
+    let full = refill-full (length c.args.frame.now.wires.items) c.args.frame.now.wires.items c.solve.new.wires (c.solve.auto.wires ∙ ap length c.as_mut_slice.ensures.value) in
+    let whole : net.channels ≡ length c.as_slice-2.result.now = sym (ap length c.as_slice-2.ensures ∙ ap length full ∙ c.solve.auto.wires ∙ ap length c.as_mut_slice.ensures.value ∙ c.requires.wires) in
+    subst (λ (n : ℕ). ArePlaced net.prims n) whole (placed_in net c.design.ensures.designed.net)
 
 pub returns-clause-frame : goal.returns-clause-frame
 returns-clause-frame c =
