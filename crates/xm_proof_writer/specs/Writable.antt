@@ -1,11 +1,15 @@
 -- Which proofs can be written so that they are read again.
 use Rattle.std.specs.Prelude.{◌≡◌, ℕ, ◌<◌, List, [], ◌∷◌, Option, Some, None, true, All, length}
 use Rattle.xm_design.specs.Designed.{Designed}
-use Rattle.xm_flow.specs.ValidLemma.{Lemma}
+use Rattle.xm_elim.specs.Ordered.{IsOrdered}
+use Rattle.xm_flow.specs.FlowRows.{Flow, IsKept}
+use Rattle.xm_flow.specs.Holding.{IsFlowOf, pair_count, queue_pair_count}
+use Rattle.xm_flow.specs.ValidLemma.{IsValid, Lemma}
 use Rattle.xm_flow.specs.declared.invariant.Part.{Part}
+use Rattle.xm_model.specs.Naming.{Naming}
 use Rattle.xm_model.specs.TextLines.{name_at}
 use Rattle.xm_netlist.specs.Doc.{Doc}
-use Rattle.xm_netlist.specs.Valid.{IsValid}
+use Rattle.xm_netlist.specs.Valid as document
 use Rattle.xm_proof.specs.Argument.{Argument}
 use Rattle.xm_proof.specs.Form.{IsFormed}
 use Rattle.xm_proof.specs.OfNet.{IsChannel, IsColour, IsGoalOf, IsPlace, IsQueue}
@@ -50,4 +54,10 @@ pub record CanBeWritten (known : Known) (proof : Argument) : Type 0 where
 
 -- those of a valid document whose net is the design's tell what they name
 abbrev pub NamesTell : Type 0
-NamesTell = (doc : Doc) (it : Designed) → IsValid doc → it.net ≡ doc.net → HasNames (known_by it doc.names)
+NamesTell = (doc : Doc) (it : Designed) → document.IsValid doc → it.net ≡ doc.net → HasNames (known_by it doc.names)
+
+-- the invariants that an elimination leaves can be written
+abbrev pub InvariantsCanBeWritten : Type 0
+InvariantsCanBeWritten = (it : Designed) (names : Naming) (flow : Flow) (lemmas : List Lemma) → IsFlowOf it flow → IsKept flow
+    → All (IsValid (pair_count it) (queue_pair_count it) flow.rows) lemmas → All IsOrdered lemmas
+    → All (IsLemmaOf (known_by it names)) lemmas
