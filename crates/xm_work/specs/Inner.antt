@@ -1,0 +1,3 @@
+-- What private clauses cite, and no public one.
+pub mod Counting
+pub mod Team

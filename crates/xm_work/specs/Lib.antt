@@ -1,0 +1,6 @@
+pub mod Counts
+pub mod Inner
+pub mod Passes
+pub mod Rounds
+pub mod Snapshots
+pub mod Taking
