@@ -1,2 +1,3 @@
 -- What private clauses cite, and no public one.
 pub mod Choosing
+pub mod Logging

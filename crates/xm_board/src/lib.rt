@@ -3,6 +3,7 @@
 
 mod board_core;
 mod laws;
+mod row_log;
 
 pub use board_core::{BoardCore, Choice};
 pub use laws::{schedules_stand, some_ready};
