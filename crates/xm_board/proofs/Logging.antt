@@ -1,5 +1,5 @@
 -- What becomes of the rows of a log.
-use Rattle.std.proofs.Common.{◌≡◌, ℕ, zero, suc, ◌+◌, ◌<◌, ◌≤◌, List, [], ◌∷◌, ◌++◌, length, drop, Some, slice_get, refl, ap, sym, ◌∙◌, subst, arith}
+use Rattle.std.proofs.Common.{◌≡◌, ℕ, zero, suc, ◌+◌, ◌<◌, ◌≤◌, List, [], ◌∷◌, length, drop, Some, slice_get, refl, ap, sym, ◌∙◌, subst, arith}
 use Rattle.xm_board.specs.Inner.Logging.{IsLog, IsLogOf, IsRoomyLog}
 use Rattle.xm_board.specs.declared.row_log.RowLog.{RowLog}
 use Rattle.xm_model.specs.ListView.{ListView}
@@ -47,3 +47,25 @@ risen net label p rows log c base changes is at rest made roomy =
       };
       roomy = roomy net label p (rows 1) is.roomy is_change (is.of.within 1 (omega arith));
     }
+
+length_at : {X : Type 0} (xs : List X) (k : ℕ) (x : X) → slice_get xs k ≡ Some x → k < length xs
+length_at [] k x e = absurd cc
+length_at (y ∷ xs) zero x e = omega arith
+length_at (y ∷ xs) (suc k) x e = (let rest = length_at xs k x e in omega arith)
+
+-- where the row of a cycle has been made, its change can be made in it
+module _ (net : Network) (label : ℕ → ℕ) (p : ℕ) (rows : ℕ → Row) (log : RowLog) (k : ℕ) (c : Change) (row : PartRow) (is : IsRoomyLog net label p rows log) (at : slice_get log.changes.items k ≡ Some c) (so_far : (row_of row ≡ rows k) × IsRoomyRow net label p row)
+  where
+    pub change_here : IsChange (row_of row) (rows (suc k)) c
+    change_here = change_at net rows log k c (row_of row) is.of at so_far.0
+
+    within_here : IsWithinCapacities net (rows (suc k))
+    within_here = is.of.within (suc k) (let h = length_at log.changes.items k c at in omega arith)
+
+    pub rooms_here : RoomLaw → HasRooms row.cells.items c.cells.items
+    rooms_here law = law net label p row (rows (suc k)) c so_far.1 change_here within_here
+
+    pub next_here : (new : PartRow) → ((to : Row) → IsChange (row_of row) to c → row_of new ≡ to) → ((net : Network) (label : ℕ → ℕ) (p : ℕ) (to : Row) → IsRoomyRow net label p row → IsChange (row_of row) to c → IsWithinCapacities net to → IsRoomyRow net label p new) → (row_of new ≡ rows (k + 1)) × IsRoomyRow net label p new
+    next_here new made roomy =
+        let next : suc k ≡ k + 1 = omega arith in
+        (made (rows (suc k)) change_here ∙ ap rows next, roomy net label p (rows (suc k)) so_far.1 change_here within_here)

@@ -1,4 +1,4 @@
-use Rattle.std.proofs.Common.{◌≡◌, drop}
+use Rattle.std.proofs.Common.{rules}
 use Rattle.xm_board.proofs.Logging.{first_change, first_rooms, risen}
 use Rattle.xm_board.proofs.row_log.RowLog.rise.Goals as goal
 
