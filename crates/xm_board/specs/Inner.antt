@@ -1,3 +1,4 @@
 -- What private clauses cite, and no public one.
 pub mod Choosing
+pub mod Jobs
 pub mod Logging

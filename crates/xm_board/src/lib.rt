@@ -2,8 +2,11 @@
 #![tactic(auto)]
 
 mod board_core;
+mod job;
 mod laws;
+mod newest;
 mod row_log;
 
 pub use board_core::{BoardCore, Choice};
+pub use job::{Done, Job};
 pub use laws::{schedules_stand, some_ready};
