@@ -1,19 +1,17 @@
 -- What the step of a job makes.
-use Rattle.std.proofs.Common.{◌≡◌, ℕ, suc, ◌+◌, ◌<◌, ◌≤◌, List, [], ap, sym, ◌∙◌, subst, refl, arith}
+use Rattle.std.proofs.Common.{◌≡◌, ℕ, suc, ◌+◌, List, [], ap, sym, ◌∙◌, subst, arith}
 use Rattle.std.specs.Prelude.{slice_index_or}
-use Rattle.xm_board.specs.Inner.Jobs.{HasStepped, IsDone, IsJob, IsNewest, StandsAt, run_in}
+use Rattle.xm_board.specs.Inner.Jobs.{IsDone, IsJob, run_in}
 use Rattle.xm_board.specs.Run.{IsNamed, row_at}
 use Rattle.xm_board.specs.declared.newest.Newest.{Newest}
 use Rattle.xm_design.specs.ColouredRuns.{FitsHold}
 use Rattle.xm_design.specs.Designed.{Designed, IsDesigned}
 use Rattle.xm_model.specs.Component.{Content}
 use Rattle.xm_model.specs.Frame.{IsFrame}
-use Rattle.xm_model.specs.Net.{IsNet}
 use Rattle.xm_model.specs.Next.{next}
 use Rattle.xm_model.specs.Signals.{Signals}
 use Rattle.xm_model.specs.Views.{choice_at}
 use Rattle.xm_model.specs.declared.state.Choice.{Choice}
-use Rattle.xm_order.specs.Dependence.{IsOrder}
 use Rattle.xm_order.specs.OneRun.{OneRun}
 use Rattle.xm_parts.specs.Changing.{CanChange, ChangeLaw, IsChange}
 use Rattle.xm_parts.specs.Kept.{Division, label_at}

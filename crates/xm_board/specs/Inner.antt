@@ -2,3 +2,4 @@
 pub mod Choosing
 pub mod Jobs
 pub mod Logging
+pub mod Standing
