@@ -12,7 +12,7 @@ pass_any-requires g c =
 pub returns-in-Packets : goal.returns-in-Packets
 returns-in-Packets g c = λ m can.
     packets_went m _ _ _ c.in-Packets.input c.in-Packets.out (rw c.in-Packets.is at can)
-    (λ capacity initial goes. pass_went c.in-Packets.input c.in-Packets.out capacity initial _ _ _ _ _ c.moved_at.ensures c.moved_at-in-Packets.ensures c.pass_any.ensures goes)
+    (λ capacity initial goes. pass_went c.in-Packets.input c.in-Packets.out capacity initial _ _ _ _ _ c.moved_at.ensures c.moved_at-in-Packets.ensures c.pass_any.ensures.passed goes)
 
 pub returns-in-Pending : goal.returns-in-Pending
 returns-in-Pending g c = λ m can.
