@@ -1,4 +1,5 @@
 pub mod Check
 pub mod Invariants
 pub mod Lines
+pub mod Search
 pub mod Verdict

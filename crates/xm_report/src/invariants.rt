@@ -19,7 +19,7 @@ use xm_model::{Names, OutOfMemory, Text};
 use xm_rows::Entry;
 
 /// Appends a queue pair: its queue, a dot and its colour.
-fn push_pair(text: &mut Text, names: &Names, pair: (u32, u8)) -> Result<(), OutOfMemory>
+pub fn push_pair(text: &mut Text, names: &Names, pair: (u32, u8)) -> Result<(), OutOfMemory>
     ensures { OnOk result (text.new.items ≡ text.old.items ++ pair_text (naming_of names.now) pair) }
 {
     push_name(text, names.prims.as_slice(), pair.0 as usize)?;

@@ -1,10 +1,11 @@
-//! Printed texts: the text of a check, of invariants and of a verdict, and the lines of error.
+//! Printed texts: the text of a check, of invariants, of a verdict and of what a search finds, and the lines of error.
 #![tactic(auto)]
 
 mod check;
 mod invariants;
 mod lines;
 mod pieces;
+mod search;
 mod verdict;
 
 pub use check::check_text;
@@ -13,4 +14,5 @@ pub use lines::{
     colour_line, document_line, form_line, loop_line, overflow_line, persistency_line, tape_line,
     width_line, wiring_line,
 };
+pub use search::{open_text, spent_text};
 pub use verdict::verdict_text;
