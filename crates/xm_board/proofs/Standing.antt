@@ -10,33 +10,33 @@ use Rattle.xm_board.specs.Schedule.{JobOf, NoFloorFell, NoneFell, NoneStale, Run
 -- ---- what a step changes
 
 module _ (c : Core) (whole : IsWhole c) (p : ℕ) (part : p < c.count) where
-  out_there : (o : Bool) → slice_index_or (slice_set c.out p o) p false ≡ o
+  pub out_there : (o : Bool) → slice_index_or (slice_set c.out p o) p false ≡ o
   out_there o = let same = whole.out in get_or-set_same c.out p o false (omega arith)
 
-  out_elsewhere : (o : Bool) (q : ℕ) → q ≢ p → slice_index_or (slice_set c.out p o) q false ≡ is_out c q
+  pub out_elsewhere : (o : Bool) (q : ℕ) → q ≢ p → slice_index_or (slice_set c.out p o) q false ≡ is_out c q
   out_elsewhere o q ne = get_or-set_other c.out p q o false ne
 
-  cycle_there : cycle (posted c p) p ≡ suc (cycle c p)
+  pub cycle_there : cycle (posted c p) p ≡ suc (cycle c p)
   cycle_there = let same = whole.cycles in get_or-set_same c.cycles p (suc (cycle c p)) 0 (omega arith)
 
-  cycle_elsewhere : (q : ℕ) → q ≢ p → cycle (posted c p) q ≡ cycle c q
+  pub cycle_elsewhere : (q : ℕ) → q ≢ p → cycle (posted c p) q ≡ cycle c q
   cycle_elsewhere q ne = get_or-set_other c.cycles p q (suc (cycle c p)) 0 ne
 
   -- a part that is out after p came in was out before, and another
-  was_out : (q : ℕ) → slice_index_or (slice_set c.out p false) q false ≡ true → (q ≢ p) × (is_out c q ≡ true)
+  pub was_out : (q : ℕ) → slice_index_or (slice_set c.out p false) q false ≡ true → (q ≢ p) × (is_out c q ≡ true)
   was_out q is =
       elim (eqb_tells q p) [
         | inl t ↦ absurd (let both : false ≡ true = sym (out_there false) ∙ ap (λ (r : ℕ). slice_index_or (slice_set c.out p false) r false) (sym t.1) ∙ is in cc)
         | inr t ↦ (t.1, sym (out_elsewhere false q t.1) ∙ is)
       ]
 
-  set_whole : (o : Bool) → length (slice_set c.out p o) ≡ c.count
+  pub set_whole : (o : Bool) → length (slice_set c.out p o) ≡ c.count
   set_whole o = length-set c.out p o ∙ whole.out
 
-  posted_whole : IsWhole (posted c p)
+  pub posted_whole : IsWhole (posted c p)
   posted_whole = record { few = whole.few; neighbours = whole.neighbours; cycles = length-set c.cycles p (suc (cycle c p)) ∙ whole.cycles; out = set_whole false }
 
-nothing_out : (n p : ℕ) → slice_index_or (replicate n false) p false ≡ false
+pub nothing_out : (n p : ℕ) → slice_index_or (replicate n false) p false ≡ false
 nothing_out zero p = refl
 nothing_out (suc n) zero = refl
 nothing_out (suc n) (suc p) = nothing_out n p

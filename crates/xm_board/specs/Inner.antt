@@ -1,2 +1,5 @@
 -- What private clauses cite, and no public one.
 pub mod Choosing
+pub mod Jobs
+pub mod Logging
+pub mod Standing

@@ -1,4 +1,5 @@
 pub mod Answers
 pub mod Core
 pub mod Inner
+pub mod Run
 pub mod Schedule

@@ -149,6 +149,13 @@ impl BoardCore {
         let _read = self.stopped;
     }
 
+    /// The first cycle of the round.
+    pub fn first(&self) -> u32
+        ensures { result ≡ self.now.first }
+    {
+        self.first
+    }
+
     /// The cycle of a part.
     pub fn cycle(&self, p: u32) -> u32
         ensures { result ≡ cycle_in self.now p }

@@ -1,8 +1,17 @@
 //! The core of the partitioned simulator, without threads: how far each part is, and which are out with workers.
 #![tactic(auto)]
 
+mod answers;
+mod board;
 mod board_core;
+mod job;
 mod laws;
+mod newest;
+mod row_log;
+mod two_cycles;
 
+pub use answers::{Posted, Take};
+pub use board::Board;
 pub use board_core::{BoardCore, Choice};
+pub use job::{Done, Job};
 pub use laws::{schedules_stand, some_ready};

@@ -15,7 +15,7 @@ ghost use Rattle.xm_commands.specs.declared.command.Command.TheVariants as comma
 use crate::command::{Command, Outcome};
 use crate::invariants::write_invariants;
 use crate::prepared::{Prepared, prepare};
-use crate::refusal::Refusal;
+use crate::refusal::{Ended, Refusal};
 use crate::running::write_run;
 use crate::verifying::write_verdict;
 use crate::writing::write_check;
@@ -47,7 +47,7 @@ fn tape_refusal(alloc: Global, fault: &TapeFault) -> Refusal
 }
 
 /// Reads the tape and writes the text of its run.
-fn answer_run<K: Sink>(alloc: Global, prepared: &Prepared, out: &mut K) -> Result<Outcome, Refusal>
+fn answer_run<K: Sink>(alloc: Global, prepared: &Prepared, out: &mut K) -> Ended
     requires { IsNamed prepared.now.design.net (naming_of prepared.now.names) }
     ensures { (bytes : Items ℕ) → IsPrepared bytes prepared.now
         → HasAnswered bytes command.Run (change K.held K.faults out.old out.new) result }
@@ -66,7 +66,7 @@ fn answer_prepared<K: Sink>(
     command: Command,
     prepared: &Prepared,
     out: &mut K,
-) -> Result<Outcome, Refusal>
+) -> Ended
     requires { IsNamed prepared.now.design.net (naming_of prepared.now.names) }
     ensures { (bytes : Items ℕ) → IsPrepared bytes prepared.now
         → HasAnswered bytes command (change K.held K.faults out.old out.new) result }
@@ -81,12 +81,7 @@ fn answer_prepared<K: Sink>(
 
 /// Writes the command's output for the bytes. A refusal for the document, its net, its tape, its proof or its
 /// invariants leaves `out`.
-pub fn answer<K: Sink>(
-    alloc: Global,
-    command: Command,
-    bytes: &[u8],
-    out: &mut K,
-) -> Result<Outcome, Refusal>
+pub fn answer<K: Sink>(alloc: Global, command: Command, bytes: &[u8], out: &mut K) -> Ended
     ensures { HasAnswered bytes.now command (change K.held K.faults out.old out.new) result }
 {
     match prepare(alloc, bytes) {

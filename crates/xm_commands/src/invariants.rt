@@ -15,7 +15,7 @@ ghost use Rattle.xm_netlist.specs.Reading.{document_in};
 
 use crate::command::{Command, Outcome};
 use crate::prepared::Prepared;
-use crate::refusal::Refusal;
+use crate::refusal::{Ended, Refusal};
 use crate::writing::write_text;
 use std::alloc::Global;
 use xm_elim::{ElimFault, invariants};
@@ -60,7 +60,7 @@ fn write_invariant_text<K: Sink>(
     prepared: &Prepared,
     lemmas: &[Invariant],
     out: &mut K,
-) -> Result<Outcome, Refusal>
+) -> Ended
     requires { AreInvariants prepared.now.design (map lemma_of lemmas.now) }
     ensures { (bytes : Items ℕ) → IsPrepared bytes prepared.now
         → HasAnswered bytes command.Inv (change K.held K.faults out.old out.new) result }
@@ -72,12 +72,7 @@ fn write_invariant_text<K: Sink>(
 }
 
 /// Writes the text of the invariants of these flow rows.
-fn write_lemmas<K: Sink>(
-    alloc: Global,
-    prepared: &Prepared,
-    rows: &FlowRows,
-    out: &mut K,
-) -> Result<Outcome, Refusal>
+fn write_lemmas<K: Sink>(alloc: Global, prepared: &Prepared, rows: &FlowRows, out: &mut K) -> Ended
     requires { HasFlow prepared.now.design rows.now }
     ensures { (bytes : Items ℕ) → IsPrepared bytes prepared.now
         → HasAnswered bytes command.Inv (change K.held K.faults out.old out.new) result }
@@ -89,11 +84,7 @@ fn write_lemmas<K: Sink>(
 }
 
 /// Writes the text of the invariants of a document that was prepared.
-pub fn write_invariants<K: Sink>(
-    alloc: Global,
-    prepared: &Prepared,
-    out: &mut K,
-) -> Result<Outcome, Refusal>
+pub fn write_invariants<K: Sink>(alloc: Global, prepared: &Prepared, out: &mut K) -> Ended
     ensures { (bytes : Items ℕ) → IsPrepared bytes prepared.now
         → HasAnswered bytes command.Inv (change K.held K.faults out.old out.new) result }
 {

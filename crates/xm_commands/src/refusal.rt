@@ -4,6 +4,7 @@ ghost use Rattle.std.specs.Prelude.{◌≡◌};
 ghost use Rattle.xm_commands.specs.Status.{IsTold, line_of, status_of};
 ghost use Rattle.xm_commands.specs.declared.refusal.Refusal.TheVariants as refusals;
 
+use crate::command::Outcome;
 use xm_io::{Sink, write_all};
 use xm_model::{OutOfMemory, Text};
 
@@ -32,6 +33,9 @@ pub enum Refusal {
     /// There are more bytes than a document may have.
     TooLong,
 }
+
+/// How a command ended: how its output turned out, or why it was refused.
+pub type Ended = Result<Outcome, Refusal>;
 
 impl From<OutOfMemory> for Refusal {
     ghost from_gives = { λ _ r. r ≡ refusals.Memory };

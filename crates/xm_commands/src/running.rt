@@ -14,7 +14,7 @@ ghost use Rattle.xm_trace.specs.Text.{IsTextOfRun, round_lines};
 ghost use Rattle.xm_commands.specs.Inner.WhyEnded.{IsWriteFault};
 
 use crate::command::Outcome;
-use crate::refusal::Refusal;
+use crate::refusal::{Ended, Refusal};
 use crate::writing::{write_bytes, write_text};
 use std::alloc::Global;
 use xm_design::Design;
@@ -105,7 +105,7 @@ fn write_rounds<K: Sink>(
     tape: &Tape,
     run: &mut RunSoFar,
     out: &mut K,
-) -> Result<Outcome, Refusal>
+) -> Ended
     requires channels { length names.now.channels.items ≡ evaluator.now.net.channels }
     requires colours { length names.now.colours.items ≡ evaluator.now.net.colours }
     requires underway { IsBegun evaluator.now tape.now run.old }
@@ -140,7 +140,7 @@ pub fn write_run<K: Sink>(
     names: &Names,
     tape: &Tape,
     out: &mut K,
-) -> Result<Outcome, Refusal>
+) -> Ended
     requires channels { length names.now.channels.items ≡ design.now.net.channels }
     requires colours { length names.now.colours.items ≡ design.now.net.colours }
     requires room { cycles_of tape.now * design.now.net.channels < 2 ^ 32 }

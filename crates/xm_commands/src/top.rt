@@ -12,7 +12,7 @@ ghost use Rattle.xm_io.specs.Faults.{Rose};
 use crate::answer::answer;
 use crate::command::{Command, Outcome, read_command};
 use crate::laws::one_output;
-use crate::refusal::{Refusal, refuse};
+use crate::refusal::{Ended, Refusal, refuse};
 use std::alloc::Global;
 use xm_elim::ends_exclude;
 use xm_io::{ReadFault, Sink, Source, Words, read_all};
@@ -23,12 +23,7 @@ use xm_order::no_loop;
 const LIMIT: u32 = 16_777_216;
 
 /// Reads the source to its end and writes the command's output for its bytes.
-fn obey<S: Source, K: Sink>(
-    alloc: Global,
-    command: Command,
-    source: &mut S,
-    out: &mut K,
-) -> Result<Outcome, Refusal>
+fn obey<S: Source, K: Sink>(alloc: Global, command: Command, source: &mut S, out: &mut K) -> Ended
     ensures { HasEnded (Some command) (change S.left S.faults source.old source.new)
         (change K.held K.faults out.old out.new) result }
 {
@@ -46,7 +41,7 @@ fn obey_words<S: Source, K: Sink>(
     words: &Words,
     source: &mut S,
     out: &mut K,
-) -> Result<Outcome, Refusal>
+) -> Ended
     ensures { HasEnded (command_of words.now) (change S.left S.faults source.old source.new)
         (change K.held K.faults out.old out.new) result }
 {

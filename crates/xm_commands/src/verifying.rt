@@ -23,7 +23,7 @@ ghost use Rattle.xm_proof_reader.specs.Views.{known_of};
 use crate::command::Outcome;
 use crate::invariants::flow_refusal;
 use crate::prepared::Prepared;
-use crate::refusal::Refusal;
+use crate::refusal::{Ended, Refusal};
 use crate::writing::write_text;
 use std::alloc::Global;
 use xm_check::check;
@@ -74,12 +74,7 @@ fn outcome(verdict: Verdict) -> Outcome
 }
 
 /// Writes the text of the verdict.
-fn write_said<K: Sink>(
-    alloc: Global,
-    prepared: &Prepared,
-    verdict: Verdict,
-    out: &mut K,
-) -> Result<Outcome, Refusal>
+fn write_said<K: Sink>(alloc: Global, prepared: &Prepared, verdict: Verdict, out: &mut K) -> Ended
     ensures { (bytes : Items ℕ) (is : IsPrepared bytes prepared.now)
         → IsVerdictOf is.doc prepared.now.design verdict
         → HasAnswered bytes command.Verify (change K.held K.faults out.old out.new) result }
@@ -97,7 +92,7 @@ fn write_checked<K: Sink>(
     rows: &FlowRows,
     proof: &Proof,
     out: &mut K,
-) -> Result<Outcome, Refusal>
+) -> Ended
     requires granted { AllGranted prepared.now.design.net }
     requires rows { HasFlow prepared.now.design rows.now }
     requires proof { proof_read prepared.now ≡ Ok (argument_of proof.now) }
@@ -117,7 +112,7 @@ fn answer_persistent<K: Sink>(
     prepared: &Prepared,
     proof: &Proof,
     out: &mut K,
-) -> Result<Outcome, Refusal>
+) -> Ended
     requires granted { AllGranted prepared.now.design.net }
     requires proof { proof_read prepared.now ≡ Ok (argument_of proof.now) }
     requires formed { IsFormed (argument_of proof.now) }
@@ -131,12 +126,7 @@ fn answer_persistent<K: Sink>(
 }
 
 /// Writes the verdict on the proof.
-fn answer_proof<K: Sink>(
-    alloc: Global,
-    prepared: &Prepared,
-    proof: &Proof,
-    out: &mut K,
-) -> Result<Outcome, Refusal>
+fn answer_proof<K: Sink>(alloc: Global, prepared: &Prepared, proof: &Proof, out: &mut K) -> Ended
     requires proof { proof_read prepared.now ≡ Ok (argument_of proof.now) }
     requires formed { IsFormed (argument_of proof.now) }
     ensures { (bytes : Items ℕ) → IsPrepared bytes prepared.now
@@ -154,7 +144,7 @@ fn answer_known<K: Sink>(
     prepared: &Prepared,
     known: &Known<'_>,
     out: &mut K,
-) -> Result<Outcome, Refusal>
+) -> Ended
     requires { known_of known.now ≡ known_by prepared.now.design (naming_of prepared.now.names) }
     ensures { (bytes : Items ℕ) → IsPrepared bytes prepared.now
         → HasAnswered bytes command.Verify (change K.held K.faults out.old out.new) result }
@@ -166,11 +156,7 @@ fn answer_known<K: Sink>(
 }
 
 /// Writes the verdict on the proof of a document that was prepared.
-pub fn write_verdict<K: Sink>(
-    alloc: Global,
-    prepared: &Prepared,
-    out: &mut K,
-) -> Result<Outcome, Refusal>
+pub fn write_verdict<K: Sink>(alloc: Global, prepared: &Prepared, out: &mut K) -> Ended
     ensures { (bytes : Items ℕ) → IsPrepared bytes prepared.now
         → HasAnswered bytes command.Verify (change K.held K.faults out.old out.new) result }
 {

@@ -10,7 +10,7 @@ ghost use Rattle.xm_io.specs.Faults.{HasCause};
 
 use crate::command::Outcome;
 use crate::prepared::Prepared;
-use crate::refusal::Refusal;
+use crate::refusal::{Ended, Refusal};
 use std::alloc::Global;
 use xm_io::{Failed, Sink, write_all};
 use xm_model::{OutOfMemory, Text};
@@ -30,7 +30,7 @@ pub fn write_bytes<K: Sink>(out: &mut K, bytes: &[u8]) -> Result<(), Refusal>
 }
 
 /// Writes a text, which turned out so.
-pub fn write_text<K: Sink>(out: &mut K, text: &Text, turned: Outcome) -> Result<Outcome, Refusal>
+pub fn write_text<K: Sink>(out: &mut K, text: &Text, turned: Outcome) -> Ended
     ensures turned { IfOk result (λ it. it ≡ turned) }
     ensures whole { OnOk result (Appends (K.held out.old) (K.held out.new) text.now.items) }
     ensures front { OnErr result (AppendsFront (K.held out.old) (K.held out.new) text.now.items) }
@@ -44,11 +44,7 @@ pub fn write_text<K: Sink>(out: &mut K, text: &Text, turned: Outcome) -> Result<
 }
 
 /// Writes the text of the check.
-pub fn write_check<K: Sink>(
-    alloc: Global,
-    prepared: &Prepared,
-    out: &mut K,
-) -> Result<Outcome, Refusal>
+pub fn write_check<K: Sink>(alloc: Global, prepared: &Prepared, out: &mut K) -> Ended
     ensures { (bytes : Items ℕ) → IsPrepared bytes prepared.now
         → HasAnswered bytes command.Check (change K.held K.faults out.old out.new) result }
 {

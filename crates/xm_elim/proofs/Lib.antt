@@ -18,3 +18,4 @@ mod Replacing
 mod Stepping
 mod Parting
 mod Gathering
+mod Ranking

@@ -2,3 +2,4 @@ pub mod Basis
 pub mod Determined
 pub mod Elimination
 pub mod Inner
+pub mod Ordered

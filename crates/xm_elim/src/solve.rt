@@ -1,10 +1,11 @@
 //! The elimination over plain rows, from flow rows to a reduced basis.
 
-ghost use Rattle.std.specs.Prelude.{◌≡◌, ◌+◌, ◌<◌, ◌^◌, ℕ, IfErr, IfOk, IfSome, IsErr, None, length, map};
+ghost use Rattle.std.specs.Prelude.{◌≡◌, ◌+◌, ◌<◌, ◌^◌, ℕ, All, IfErr, IfOk, IfSome, IsErr, None, length, map};
 ghost use Rattle.xm_elim.specs.Basis.{AreOver, IsConsistent, IsReducedBasis};
 ghost use Rattle.xm_elim.specs.Elimination.{ElimOverflows, EndsWith, OnOverflow, Reaches, begun_from};
 ghost use Rattle.xm_elim.specs.Inner.Columns.{Covers};
 ghost use Rattle.xm_rows.specs.Columns.{columns_of};
+ghost use Rattle.xm_elim.specs.Ordered.{IsOrdered};
 ghost use Rattle.xm_elim.specs.Inner.Places.{IsPivotPlace, IsPlaceRefused, IsTestRefused};
 ghost use Rattle.xm_elim.specs.declared.work.Status.TheVariants as status;
 ghost use Rattle.xm_flow.specs.ValidLemma.{lemma_of};
@@ -64,6 +65,7 @@ fn lemmas_left(
     requires whole { length it.now.columns.items ≡ moves + counts }
     ensures ends { IfOk result (λ lemmas. EndsWith moves counts flow.now (map lemma_of lemmas.items)) }
     ensures basis { IfOk result (λ lemmas. IsReducedBasis moves counts flow.now (map lemma_of lemmas.items)) }
+    ensures ordered { IfOk result (λ lemmas. All IsOrdered (map lemma_of lemmas.items)) }
     ensures overflow { IfErr result (OnOverflow (ElimOverflows moves counts flow.now)) }
     ensures meets { (r s : SparseRow) (column : ℕ) → ElimOverflows moves counts flow.now r s column → IsErr result }
 {
@@ -92,6 +94,7 @@ pub fn lemmas_of(
     requires consistent { IsConsistent flow.now }
     ensures ends { IfOk result (λ lemmas. EndsWith moves counts flow.now (map lemma_of lemmas.items)) }
     ensures basis { IfOk result (λ lemmas. IsReducedBasis moves counts flow.now (map lemma_of lemmas.items)) }
+    ensures ordered { IfOk result (λ lemmas. All IsOrdered (map lemma_of lemmas.items)) }
     ensures overflow { IfErr result (OnOverflow (ElimOverflows moves counts flow.now)) }
     ensures meets { (r s : SparseRow) (column : ℕ) → ElimOverflows moves counts flow.now r s column → IsErr result }
 {

@@ -1,8 +1,9 @@
 //! The invariants of a design.
 
-ghost use Rattle.std.specs.Prelude.{ℕ, IfErr, IfOk, IsErr, map};
+ghost use Rattle.std.specs.Prelude.{ℕ, All, IfErr, IfOk, IsErr, map};
 ghost use Rattle.xm_elim.specs.Basis.{IsReducedBasis};
 ghost use Rattle.xm_elim.specs.Elimination.{ElimOverflows, EndsWith, OnOverflow};
+ghost use Rattle.xm_elim.specs.Ordered.{IsOrdered};
 ghost use Rattle.xm_flow.specs.Holding.{IsFlowOf, pair_count, queue_pair_count};
 ghost use Rattle.xm_flow.specs.ValidLemma.{lemma_of};
 ghost use Rattle.xm_rows.specs.Row.{SparseRow};
@@ -27,6 +28,7 @@ pub fn invariants(
     requires { IsFlowOf design.now rows.now }
     ensures basis { let moves = pair_count design.now in let counts = queue_pair_count design.now in
         IfOk result (λ lemmas. IsReducedBasis moves counts rows.now.rows (map lemma_of lemmas.items)) }
+    ensures ordered { IfOk result (λ lemmas. All IsOrdered (map lemma_of lemmas.items)) }
     ensures ends { let moves = pair_count design.now in let counts = queue_pair_count design.now in
         IfOk result (λ lemmas. EndsWith moves counts rows.now.rows (map lemma_of lemmas.items)) }
     ensures overflow { let moves = pair_count design.now in let counts = queue_pair_count design.now in

@@ -25,7 +25,7 @@ pub use comparing::change;
 pub use fault::PartFault;
 pub use glue::Glue;
 pub use islands_of::islands;
-pub use laws::{capacity_law, change_law, far_law, fit_law, glue_law, part_law, room_law};
+pub use laws::{capacity_law, change_law, far_law, few_law, fit_law, glue_law, part_law, room_law};
 pub use making::project;
 pub use moves::far;
 pub use parts::Parts;

@@ -35,6 +35,16 @@ impl FarMoves {
         }
         Ok(FarMoves { moves })
     }
+
+    /// Makes the moves those of `from`, which is of the same part. No memory is taken.
+    pub fn put(&mut self, from: &FarMoves)
+        requires { length self.old ≡ length from.now }
+        ensures { self.new ≡ from.now }
+    {
+        self.moves
+            .as_mut_slice()
+            .copy_from_slice(from.moves.as_slice());
+    }
 }
 
 fn set_moves(parts: &Parts, p: u32, q: u32, wires: &[Wire], moves: &mut [Option<u8>])

@@ -1,9 +1,9 @@
 -- Tasks that are done in the order of a schedule are settled.
-use Rattle.std.proofs.Common.{◌≡◌, ◌≢◌, ℕ, suc, ◌+◌, ◌<◌, ◌≤◌, List, [], ◌∷◌, Some, cond, nat_eq, length, take, slice_get, refl, sym, ap, ◌∙◌, subst, arith, inl, inr, add-one}
+use Rattle.std.proofs.Common.{◌≡◌, ◌≢◌, ℕ, suc, ◌+◌, ◌<◌, ◌≤◌, Bool, List, [], ◌∷◌, Some, cond, nat_eq, length, take, slice_get, refl, sym, ap, ◌∙◌, subst, arith, inl, inr, add-one}
 use Rattle.std.proofs.lemmas.Bool.{cases_lt}
 use Rattle.std.proofs.lemmas.Bool.Decides.{eqb_tells}
 use Rattle.xm_design.specs.declared.tasks.Task.{Task}
-use Rattle.xm_model.specs.Component.{Component, Content, Fork, Join}
+use Rattle.xm_model.specs.Component.{Component, Content, Fork, Join, Queue}
 use Rattle.xm_model.specs.Lemmas.PortCounts.{at_first}
 use Rattle.xm_model.specs.Ports
 use Rattle.xm_model.specs.Ports.{HasInput, HasOutput}
@@ -15,12 +15,15 @@ use Rattle.xm_order.specs.Settle.{Same}
 use Rattle.xm_order.specs.Sides.{offer_side, ready_side}
 use Rattle.xm_order.specs.declared.signal.Signal.{Signal}
 use Rattle.xm_order.specs.declared.signal.Signal.TheVariants as signal
-use Rattle.xm_plan.specs.Inner.Made.{AreMade, AreSettledTo, IsDone, IsStep}
-use Rattle.xm_plan.specs.Inner.Operations.{FitsOperation, all_tasks, prim_of, signals_made, task_of}
+use Rattle.xm_plan.specs.Inner.Made.{AreMade, AreSettledTo, IsDone, IsLeft, IsStep}
+use Rattle.xm_plan.specs.Inner.Operations
+use Rattle.xm_plan.specs.Inner.Operations.{FitsOperation, IsOperationOf, all_tasks, prim_of, signals_made, task_of}
 use Rattle.xm_plan.proofs.Operating.{signal_at, tasks_length}
 use Rattle.std.proofs.lemmas.List.{take_all}
 use Rattle.std.proofs.lemmas.Option.{slice_get_within}
+use Rattle.xm_plan.specs.Shown.{AreShown, IsShown}
 use Rattle.xm_plan.specs.declared.operation.Operation.{Operation}
+use Rattle.xm_plan.specs.declared.operation.Operation.TheVariants as operation
 use Rattle.xm_plan.specs.Schedule.{AreSettled, IsMadeFrom, IsMaker, IsSchedule, LeavesOthers}
 
 -- the choice by the first of two ports that may be one
@@ -127,7 +130,7 @@ module _ (prims : List Component) (s : ℕ → Content) (w : ℕ → Choice) (ta
         next : (n j : ℕ) → n + suc j ≡ suc n + j
         next n j = omega arith
 
-same_self : (φ : Signals) (σ : Signal) → Same φ φ σ
+pub same_self : (φ : Signals) (σ : Signal) → Same φ φ σ
 same_self φ (signal.Offer c) = refl
 same_self φ (signal.Ready c) = refl
 
@@ -141,6 +144,30 @@ pub operation_settled : (prims : List Component) (s : ℕ → Content) (w : ℕ 
 operation_settled prims s w ops schedule first φ ψ choices k op at fits before done =
     rw (add-one, tasks_length ops k op at)
     (settled_more prims s w (all_tasks ops) schedule first (prim_of op) fits.prim (signals_made op) (length (all_tasks (take k ops))) φ ψ fits.has before (λ j σ e. signal_at ops k j op σ at e) (done fits.prim fits.has))
+
+shown_of : (choices : List ℕ) (m : Component) (s : Content) (φ : Signals) (p input out capacity : ℕ) → IsOperationOf choices (operation.Queue p input out capacity) m → IsShown m s φ → IsShown (Queue input out capacity []) s φ
+shown_of choices m s φ p input out capacity Operations.queue shown = shown
+
+-- what an operation may leave is shown still
+pub left_settled : (prims : List Component) (s : ℕ → Content) (w : ℕ → Choice) (changed : List Bool) (ops : List Operation) → IsSchedule prims (all_tasks ops) → (first φ : Signals) (choices : List ℕ) (k : ℕ) (op : Operation) →
+    slice_get ops k ≡ Some op → FitsOperation prims choices op → AreShown prims s changed first → AreSettledTo prims s w (all_tasks ops) first (length (all_tasks (take k ops))) φ → IsLeft s changed φ op
+left_settled prims s w changed ops schedule first φ choices k (operation.Queue p input out capacity) at fits shown before = λ unchanged.
+    let op : Operation = operation.Queue p input out capacity in
+    let n = length (all_tasks (take k ops)) in
+    let was = shown_of choices fits.prim (s p) first p input out capacity fits.is (shown p fits.prim fits.has unchanged) in
+    let apart : (i : ℕ) (σ : Signal) → slice_get (signals_made op) i ≡ Some σ → (j : ℕ) (task : Task) → j < n → slice_get (all_tasks ops) j ≡ Some task → task.signal ≢ σ = λ i σ e j task less there same.
+    let one = schedule.once j (n + i) task (task_of p σ) there (signal_at ops k i op σ at e) same in absurd (omega arith) in
+    (sym (before.others (signal.Offer out) (apart 0 (signal.Offer out) refl)) ∙ was.0, sym (before.others (signal.Ready input) (apart 1 (signal.Ready input) refl)) ∙ was.1)
+left_settled prims s w changed ops schedule first φ choices k (operation.Source p out choice mode) at fits shown before = tt
+left_settled prims s w changed ops schedule first φ choices k (operation.Sink p input choice mode) at fits shown before = tt
+left_settled prims s w changed ops schedule first φ choices k (operation.Function p input out) at fits shown before = tt
+left_settled prims s w changed ops schedule first φ choices k (operation.ForkPlain p input a b n) at fits shown before = tt
+left_settled prims s w changed ops schedule first φ choices k (operation.Fork p input a b) at fits shown before = tt
+left_settled prims s w changed ops schedule first φ choices k (operation.Join p a b out pass) at fits shown before = tt
+left_settled prims s w changed ops schedule first φ choices k (operation.SwitchOffers p input a b) at fits shown before = tt
+left_settled prims s w changed ops schedule first φ choices k (operation.SwitchReady p input a b) at fits shown before = tt
+left_settled prims s w changed ops schedule first φ choices k (operation.Merge p a b out) at fits shown before = tt
+left_settled prims s w changed ops schedule first φ choices k (operation.One task) at fits shown before = tt
 
 -- all operations
 pub all_settled : (prims : List Component) (s : ℕ → Content) (w : ℕ → Choice) (ops : List Operation) (first φ : Signals) (k : ℕ) → length ops ≤ k →

@@ -1,3 +1,4 @@
 pub mod Inner
 pub mod Planned
 pub mod Schedule
+pub mod Shown

@@ -10,6 +10,6 @@ mod operation;
 mod plan;
 mod row;
 
-pub use cells::{is_ready_at, moved_at, moves_at, offer_at, wire_at};
+pub use cells::{is_ready_at, moved_at, moved_in, offer_at, wire_at};
 pub use equations::granted;
 pub use plan::Plan;

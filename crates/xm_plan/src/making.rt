@@ -1,6 +1,6 @@
 //! Signals made by one operation.
 
-ghost use Rattle.std.specs.Prelude.{◌≡◌, ◌≢◌, ◌<◌, ◌≤◌, ◌&&◌, ◌||◌, [], ◌∷◌, ℕ, is_some, length, map, slice_get, List as Colours, Some};
+ghost use Rattle.std.specs.Prelude.{◌≡◌, ◌≢◌, ◌<◌, ◌≤◌, ◌&&◌, ◌||◌, [], ◌∷◌, ℕ, false, is_some, length, map, slice_get, IsTrue, List as Colours, Some};
 ghost use Rattle.xm_model.specs.Component.{Content, Fork, Function, Join, Merge, Queue, Sink, Source, Switch, component_of, content_of};
 ghost use Rattle.xm_model.specs.Signals.{at_side, grant, granted_offer, is_a, is_b, offer_chosen, only_if, source_offer, through, to_side_a, to_side_b};
 ghost use Rattle.xm_model.specs.Views.{choice_or, content_at, signals_of};
@@ -9,10 +9,11 @@ ghost use Rattle.xm_model.specs.declared.state.Choice.{Choice as Chosen};
 ghost use Rattle.xm_order.specs.Dependence.{channel_of};
 ghost use Rattle.xm_order.specs.Settle.{ChangesOnly};
 ghost use Rattle.xm_order.specs.declared.signal.Signal.TheVariants as signal;
-ghost use Rattle.xm_plan.specs.Inner.Made.{AreMade, IsDone, SettlesOn};
+ghost use Rattle.xm_plan.specs.Inner.Made.{AreMade, IsDone, IsLeft, SettlesOn};
 ghost use Rattle.xm_plan.specs.Inner.Operations.{AllFit, AreApart, FitsOperation, Keeps, all_tasks, kept, table_a_in, table_b_in, table_in, to_a_in};
 ghost use Rattle.xm_plan.specs.Planned.{choice_for};
 ghost use Rattle.xm_plan.specs.Schedule.{ArePlaced, AreSettled, IsSchedule, LeavesOthers};
+ghost use Rattle.xm_plan.specs.Shown.{AreShown, IsShown};
 ghost use Rattle.xm_plan.specs.declared.operation.Operation.{Operation as Op};
 
 use crate::cells::{chosen_offer, offer_in, ready_in};
@@ -99,6 +100,39 @@ fn make_queue<C: HasCell>(cell: &C, input: u32, out: u32, capacity: u32, wires: 
     let (offer, ready) = (cell.oldest(), cell.count() < capacity as usize);
     put_offer(wires, out, offer);
     put_ready(wires, input, ready);
+}
+
+/// Whether a primitive is noted as unchanged.
+fn is_unchanged(changed: &[bool], prim: u32) -> bool
+    ensures { IsTrue result → slice_get changed.now prim ≡ Some false }
+{
+    match changed.get(prim as usize) {
+        Some(changed) => !*changed,
+        None => false,
+    }
+}
+
+/// Makes the signals of a queue, unless they show already what it holds.
+fn renew_queue<C: HasCell>(
+    cell: &C,
+    unchanged: bool,
+    input: u32,
+    out: u32,
+    capacity: u32,
+    wires: &mut [Wire],
+)
+    requires input { input < length wires.old }
+    requires out { out < length wires.old }
+    ensures { (initial : Colours ℕ) (w : Chosen)
+        → (IsTrue unchanged → IsShown (Queue input out capacity initial) (content_of (C.cell cell.now))
+        (signals_of wires.old))
+        → AreMade (Queue input out capacity initial) (content_of (C.cell cell.now)) w (signals_of wires.old)
+        (signal.Offer out ∷ signal.Ready input ∷ []) (signals_of wires.new) }
+{
+    if unchanged {
+        return;
+    }
+    make_queue(cell, input, out, capacity, wires);
 }
 
 fn make_function(table: &[u8], input: u32, out: u32, wires: &mut [Wire])
@@ -327,13 +361,14 @@ fn to_a(prim: &Prim) -> &[bool]
     }
 }
 
-/// Makes the signals of one operation. It is inlined in each loop over a kind, where the kind is known.
+/// Makes the signals of one operation, but leaves those of a queue that is noted as unchanged. It is inlined in each loop over a kind, where the kind is known.
 #[inline(always)]
 fn make<C: HasCell>(
     operation: Operation,
     prims: &[Prim],
     choices: &[u32],
     cells: &[C],
+    changed: &[bool],
     row: &[Choice],
     wires: &mut [Wire],
 )
@@ -341,7 +376,8 @@ fn make<C: HasCell>(
     requires placed { ArePlaced (map component_of prims.now) (length wires.old) }
     requires cells { length cells.now ≡ length prims.now }
     requires choices { length choices.now ≡ length prims.now }
-    ensures { IsDone (map component_of prims.now) (content_at (map C.cell cells.now)) (choice_for choices.now row.now)
+    ensures { IsLeft (content_at (map C.cell cells.now)) changed.now (signals_of wires.old) operation
+        → IsDone (map component_of prims.now) (content_at (map C.cell cells.now)) (choice_for choices.now row.now)
         (signals_of wires.old) operation (signals_of wires.new) }
 {
     match operation {
@@ -362,7 +398,17 @@ fn make<C: HasCell>(
             input,
             out,
             capacity,
-        } => make_queue(&cells[prim as usize], input, out, capacity, wires),
+        } => {
+            let unchanged = is_unchanged(changed, prim);
+            renew_queue(
+                &cells[prim as usize],
+                unchanged,
+                input,
+                out,
+                capacity,
+                wires,
+            );
+        }
         Operation::Function { prim, input, out } => {
             make_function(table(&prims[prim as usize]), input, out, wires)
         }
@@ -454,6 +500,7 @@ fn make_run<C: HasCell>(
     prims: &[Prim],
     choices: &[u32],
     cells: &[C],
+    changed: &[bool],
     row: &[Choice],
     wires: &mut [Wire],
 ) -> usize
@@ -466,12 +513,12 @@ fn make_run<C: HasCell>(
     ensures later { from < result }
     ensures within { result ≤ length operations.now }
     ensures settled { SettlesOn (map component_of prims.now) (content_at (map C.cell cells.now))
-        (choice_for choices.now row.now) operations.now from (signals_of wires.old) result (signals_of wires.new) }
+        (choice_for choices.now row.now) changed.now operations.now from (signals_of wires.old) result (signals_of wires.new) }
 {
-    make(operations[from], prims, choices, cells, row, wires);
+    make(operations[from], prims, choices, cells, changed, row, wires);
     let mut k = from + 1;
     while k < operations.len() && is_of(kind, operations[k]) {
-        make(operations[k], prims, choices, cells, row, wires);
+        make(operations[k], prims, choices, cells, changed, row, wires);
         k += 1;
     }
     k
@@ -485,6 +532,7 @@ fn make_some<C: HasCell>(
     prims: &[Prim],
     choices: &[u32],
     cells: &[C],
+    changed: &[bool],
     row: &[Choice],
     wires: &mut [Wire],
 ) -> usize
@@ -497,7 +545,7 @@ fn make_some<C: HasCell>(
     ensures later { from < result }
     ensures within { result ≤ length operations.now }
     ensures settled { SettlesOn (map component_of prims.now) (content_at (map C.cell cells.now))
-        (choice_for choices.now row.now) operations.now from (signals_of wires.old) result (signals_of wires.new) }
+        (choice_for choices.now row.now) changed.now operations.now from (signals_of wires.old) result (signals_of wires.new) }
 {
     match kind_of(operations[from]) {
         Kind::Source => make_run(
@@ -507,6 +555,7 @@ fn make_some<C: HasCell>(
             prims,
             choices,
             cells,
+            changed,
             row,
             wires,
         ),
@@ -517,6 +566,7 @@ fn make_some<C: HasCell>(
             prims,
             choices,
             cells,
+            changed,
             row,
             wires,
         ),
@@ -527,6 +577,7 @@ fn make_some<C: HasCell>(
             prims,
             choices,
             cells,
+            changed,
             row,
             wires,
         ),
@@ -537,6 +588,7 @@ fn make_some<C: HasCell>(
             prims,
             choices,
             cells,
+            changed,
             row,
             wires,
         ),
@@ -547,6 +599,7 @@ fn make_some<C: HasCell>(
             prims,
             choices,
             cells,
+            changed,
             row,
             wires,
         ),
@@ -557,6 +610,7 @@ fn make_some<C: HasCell>(
             prims,
             choices,
             cells,
+            changed,
             row,
             wires,
         ),
@@ -567,6 +621,7 @@ fn make_some<C: HasCell>(
             prims,
             choices,
             cells,
+            changed,
             row,
             wires,
         ),
@@ -577,6 +632,7 @@ fn make_some<C: HasCell>(
             prims,
             choices,
             cells,
+            changed,
             row,
             wires,
         ),
@@ -587,6 +643,7 @@ fn make_some<C: HasCell>(
             prims,
             choices,
             cells,
+            changed,
             row,
             wires,
         ),
@@ -601,6 +658,7 @@ pub fn make_all<C: HasCell>(
     prims: &[Prim],
     choices: &[u32],
     cells: &[C],
+    changed: &[bool],
     row: &[Choice],
     wires: &mut [Wire],
 )
@@ -610,6 +668,8 @@ pub fn make_all<C: HasCell>(
     requires schedule { IsSchedule (map component_of prims.now) (all_tasks operations.now) }
     requires cells { length cells.now ≡ length prims.now }
     requires choices { length choices.now ≡ length prims.now }
+    requires shown { AreShown (map component_of prims.now) (content_at (map C.cell cells.now)) changed.now
+        (signals_of wires.old) }
     ensures settled { AreSettled (map component_of prims.now) (content_at (map C.cell cells.now))
         (choice_for choices.now row.now)
         (all_tasks operations.now) (signals_of wires.new) }
@@ -617,6 +677,6 @@ pub fn make_all<C: HasCell>(
 {
     let mut k = 0;
     while k < operations.len() {
-        k = make_some(k, operations, prims, choices, cells, row, wires);
+        k = make_some(k, operations, prims, choices, cells, changed, row, wires);
     }
 }

@@ -170,6 +170,7 @@ impl Plan {
     ghost use Rattle.xm_model.specs.Views.{content_at, signals_of};
     ghost use Rattle.xm_plan.specs.Planned.{choice_for};
     ghost use Rattle.xm_plan.specs.Schedule.{ArePlaced, AreSettled, IsSchedule, LeavesOthers, SameTasks};
+    ghost use Rattle.xm_plan.specs.Shown.{AreShown};
 
     /// A plan that does these tasks, which it may put into another order. `choices` tells for each primitive where its
     /// choice stands in a row. Time is linear in the primitives, the places and the tasks.
@@ -208,11 +209,34 @@ impl Plan {
             self.now.tasks (signals_of wires.new) }
         ensures others { LeavesOthers self.now.tasks (signals_of wires.old) (signals_of wires.new) }
     {
+        self.solve_changed(prims, cells, &[], row, wires);
+    }
+
+    /// The same, where the wires show already what the queues hold that are noted as unchanged.
+    pub fn solve_changed<C: HasCell>(
+        &self,
+        prims: &[Prim],
+        cells: &[C],
+        changed: &[bool],
+        row: &[Choice],
+        wires: &mut [Wire],
+    )
+        requires prims { map component_of prims.now ≡ self.now.prims }
+        requires cells { length cells.now ≡ length prims.now }
+        requires wires { length wires.old ≡ self.now.places }
+        requires shown { AreShown self.now.prims (content_at (map C.cell cells.now)) changed.now
+            (signals_of wires.old) }
+        ensures settled { AreSettled self.now.prims (content_at (map C.cell cells.now))
+            (choice_for self.now.choices row.now)
+            self.now.tasks (signals_of wires.new) }
+        ensures others { LeavesOthers self.now.tasks (signals_of wires.old) (signals_of wires.new) }
+    {
         make_all(
             self.operations.as_slice(),
             prims,
             self.choices.as_slice(),
             cells,
+            changed,
             row,
             wires,
         );

@@ -16,6 +16,7 @@ use Rattle.xm_lits.specs.declared.literal.Lit.TheVariants.{Stuck, Dead, Idle, Fu
 use Rattle.xm_model.specs.Steps.{◌>>=◌, check, demand, each}
 use Rattle.xm_proof.specs.Argument.{Argument, Cite, Clash, Eager, Open, Refutation, Split, Step, Sum}
 use Rattle.xm_proof.specs.Form.{are_trees}
+use Rattle.xm_proof.specs.OfNet.{has_via}
 use Rattle.xm_proof.specs.declared.proof.Item.{Item}
 use Rattle.xm_proof.specs.declared.proof.Item.TheVariants as item
 use Rattle.xm_rows.specs.declared.row.Entry.{Entry}
@@ -183,32 +184,6 @@ rule_of text =
 
 abbrev pub rule_at : Path → Data → Result RuleName Path
 rule_at path d = demand (option_and_then rule_of (as_str d)) path
-
--- whether the rule is named for a colour of a fork's input too
-abbrev pub has_via : RuleName → Bool
-has_via P0 = false
-has_via S1 = false
-has_via S2 = false
-has_via S3 = false
-has_via S4 = false
-has_via S5 = false
-has_via S6 = false
-has_via P1 = false
-has_via P2 = false
-has_via P3 = false
-has_via P4 = false
-has_via O1 = false
-has_via O2 = false
-has_via O3 = false
-has_via O4 = false
-has_via O5 = false
-has_via O6 = false
-has_via I2 = false
-has_via I3 = false
-has_via I4 = true
-has_via I5 = false
-has_via I6 = false
-has_via I7 = false
 
 unfoldable pub split_via : Known → Path → RuleName → Lit → ℕ → Data → Result Step Path
 split_via known path rule on kids d = do

@@ -8,6 +8,7 @@ ghost use Rattle.xm_json.specs.Members as members;
 ghost use Rattle.xm_json.specs.Path.{member_of, place_of};
 ghost use Rattle.xm_model.specs.Steps.{each};
 ghost use Rattle.xm_proof.specs.Argument.{step_of};
+ghost use Rattle.xm_proof.specs.OfNet as of_net;
 ghost use Rattle.xm_proof_reader.specs.Views.{known_of};
 ghost use Rattle.xm_proof_reader.specs.Reading as spec;
 
@@ -116,12 +117,9 @@ fn split_plain(
 }
 
 fn has_via(rule: RuleName) -> bool
-    ensures { result ≡ spec.has_via rule }
+    ensures { result ≡ of_net.has_via rule }
 {
-    match rule {
-        RuleName::I4 => true,
-        _ => false,
-    }
+    matches!(rule, RuleName::I4)
 }
 
 #[tactic(auto, unfolding(crate::specs::Reading::split_in))]

@@ -1,6 +1,7 @@
+pub mod Columns
 pub mod Names
 pub mod Numbers
-pub mod Steps
+pub mod Ordered
 pub mod Rows
-pub mod Columns
+pub mod Steps
 pub mod Whole

@@ -12,7 +12,7 @@ use Rattle.xm_json.specs.Values.{small_number_at}
 use Rattle.xm_proof.specs.Sums.{fits128}
 use Rattle.xm_proof_reader.specs.Numbers.{number_of}
 use Rattle.xm_proof_reader.specs.Reading.{most_places, number_at}
-use Rattle.xm_proof_writer.specs.Writable.{IsPlace}
+use Rattle.xm_proof.specs.OfNet.{IsPlace}
 use Rattle.xm_proof_writer.specs.Writing.{number_data, place_data}
 use Rattle.xm_rows.specs.Row.{Fits128}
 use Rattle.xm_shape.specs.Lemmas.Equal.{same_bytes}

@@ -10,7 +10,8 @@ use Rattle.xm_json.specs.Members.{only}
 use Rattle.xm_json.specs.Path.{Path, member_of, place_of}
 use Rattle.xm_proof_reader.specs.Known.{Known, pair_from}
 use Rattle.xm_proof_reader.specs.Reading.{each_after, follows, items_member, lemma_at, number_member, part_at, queue_and_colour, rises_to, rows_in, term_at, term_in, terms_in}
-use Rattle.xm_proof_writer.specs.Writable.{AreParts, HasNames, IsColour, IsLemmaOf, IsPartOf, IsQueue}
+use Rattle.xm_proof.specs.OfNet.{IsColour, IsQueue}
+use Rattle.xm_proof_writer.specs.Writable.{AreParts, HasNames, IsLemmaOf, IsPartOf}
 use Rattle.xm_proof_writer.specs.Writing.{lemma_data, part_data, term_data}
 use Rattle.xm_proof_writer.proofs.Numbers.{number_again, place_again}
 use Rattle.xm_proof_writer.proofs.Steps.{few_mapped, items_again}
@@ -36,8 +37,8 @@ pub record IsColumn (known : Known) (column : ℕ) : Type 0 where
   pub colour : ℕ
   pub pair : slice_index_or known.pairs column (0, 0) ≡ (queue, colour)
   pub first : pair_from 0 known.pairs queue colour ≡ Some column
-  pub is_queue : IsQueue known queue
-  pub is_colour : IsColour known colour
+  pub is_queue : IsQueue known.net queue
+  pub is_colour : IsColour known.net colour
 
 -- each entry's column is one
 abbrev pub AreColumns : Known → List Entry → Type 0

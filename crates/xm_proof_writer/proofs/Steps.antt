@@ -19,7 +19,8 @@ use Rattle.xm_proof.specs.declared.proof.Item.TheVariants as item
 use Rattle.xm_proof_reader.specs.Known.{Known}
 use Rattle.xm_proof_reader.specs.Reading.{channel_and_colour, cite_in, clash_in, eager_in, item_at, items_at, items_member, literal_at, literal_member, long_item, long_literal}
 use Rattle.xm_proof_reader.specs.Reading.{node_at, open_in, queue_and_colour, rule_of, short_item, short_literal, split_in, split_plain, split_via, sum_in, sum_items}
-use Rattle.xm_proof_writer.specs.Writable.{HasNames, IsItemOf, IsLiteralOf, IsPlace, IsStepOf}
+use Rattle.xm_proof.specs.OfNet.{IsItemOf, IsLiteralOf, IsPlace, IsStepOf}
+use Rattle.xm_proof_writer.specs.Writable.{HasNames}
 use Rattle.xm_proof_writer.specs.Writing.{item_data, list_data, literal_data, rule_name, step_data}
 use Rattle.xm_proof_writer.proofs.Numbers.{number_again, place_again}
 use Rattle.xm_writer.specs.Lemmas.Values.{list_of-items_of}
@@ -69,7 +70,7 @@ rule_again I7 = refl
 module _ (known : Known) (names : HasNames known) where
   -- ---- literals and items
 
-  pub literal_again : (path : Path) (l : Lit) → IsLiteralOf known l → literal_at known path (literal_data known l) ≡ Ok l
+  pub literal_again : (path : Path) (l : Lit) → IsLiteralOf known.net l → literal_at known path (literal_data known l) ≡ Ok l
   unfolding literal_at short_literal long_literal channel_and_colour queue_and_colour
   literal_again path (Stuck c) is = rw (names.channels c is) refl
   literal_again path (Dead c d) is = rw (names.channels c is.0, names.colours d is.1) refl
@@ -78,7 +79,7 @@ module _ (known : Known) (names : HasNames known) where
   literal_again path (Has q d) is = rw (names.queues q is.0, names.colours d is.1) refl
   literal_again path (Lacks q d) is = rw (names.queues q is.0, names.colours d is.1) refl
 
-  pub item_again : (path : Path) (i : Item) → IsItemOf known i → item_at known path (item_data known i) ≡ Ok i
+  pub item_again : (path : Path) (i : Item) → IsItemOf known.net i → item_at known path (item_data known i) ≡ Ok i
   unfolding item_at short_item long_item queue_and_colour
   item_again path (item.Lemma k n) is = rw (place_again (place_of path 1) k is.0, number_again (place_of path 2) n is.1) refl
   item_again path (item.Cap q n) is = rw (names.queues q is.0, number_again (place_of path 2) n is.1) refl
@@ -87,7 +88,7 @@ module _ (known : Known) (names : HasNames known) where
 
   -- ---- steps
 
-  split_again : (path : Path) (name : RuleName) (on : Lit) (via : Option ℕ) (kids : ℕ) → IsStepOf known (Split name on via kids)
+  split_again : (path : Path) (name : RuleName) (on : Lit) (via : Option ℕ) (kids : ℕ) → IsStepOf known.net (Split name on via kids)
       → node_at known path (step_data known (Split name on via kids)) ≡ Ok (Split name on via kids)
   unfolding node_at split_in split_plain split_via small_number_member literal_member only
   split_again path name on None kids is =
@@ -95,21 +96,21 @@ module _ (known : Known) (names : HasNames known) where
   split_again path name on (Some d) kids is =
       rw (place_again (member_of path (codes "kids")) kids is.2, literal_again (member_of path (codes "on")) on is.0, rule_again name, is.1.0, names.colours d is.1.1) refl
 
-  sum_again : (path : Path) (items : List Item) → IsStepOf known (Sum items) → node_at known path (step_data known (Sum items)) ≡ Ok (Sum items)
+  sum_again : (path : Path) (items : List Item) → IsStepOf known.net (Sum items) → node_at known path (step_data known (Sum items)) ≡ Ok (Sum items)
   unfolding node_at sum_in sum_items items_member only
   sum_again path items is =
       rw (
         items_again (member_of path (codes "sum")) (map (item_data known) items) (few_mapped (item_data known) items is.0),
-        each_again (IsItemOf known) (λ i x. item_at known (place_of (member_of path (codes "sum")) i) x) (item_data known) (λ i y p. item_again (place_of (member_of path (codes "sum")) i) y p) 0 items is.1,
+        each_again (IsItemOf known.net) (λ i x. item_at known (place_of (member_of path (codes "sum")) i) x) (item_data known) (λ i y p. item_again (place_of (member_of path (codes "sum")) i) y p) 0 items is.1,
       ) refl
 
-  clash_again : (path : Path) (one : Lit) (other : Option Lit) → IsStepOf known (Clash one other) → node_at known path (step_data known (Clash one other)) ≡ Ok (Clash one other)
+  clash_again : (path : Path) (one : Lit) (other : Option Lit) → IsStepOf known.net (Clash one other) → node_at known path (step_data known (Clash one other)) ≡ Ok (Clash one other)
   unfolding node_at clash_in list_member only
   clash_again path one None is = rw (literal_again (place_of (member_of path (codes "clash")) 0) one is.0) refl
   clash_again path one (Some other) is =
       rw (literal_again (place_of (member_of path (codes "clash")) 0) one is.0, literal_again (place_of (member_of path (codes "clash")) 1) other is.1) refl
 
-  pub step_again : (path : Path) (step : Step) → IsStepOf known step → node_at known path (step_data known step) ≡ Ok step
+  pub step_again : (path : Path) (step : Step) → IsStepOf known.net step → node_at known path (step_data known step) ≡ Ok step
   unfolding node_at eager_in cite_in open_in small_number_member only
   step_again path (Split name on via kids) is = split_again path name on via kids is
   step_again path (Clash one other) is = clash_again path one other is

@@ -11,7 +11,8 @@ use Rattle.xm_proof.specs.Argument.{Argument, Refutation}
 use Rattle.xm_proof.specs.Form.{are_trees}
 use Rattle.xm_proof_reader.specs.Known.{Known, known_by}
 use Rattle.xm_proof_reader.specs.Reading.{goal_at, goals_in, items_member, lemma_at, lemmas_in, literal_member, node_at, object_in, proof, proof_in, steps_in, tree_in}
-use Rattle.xm_proof_writer.specs.Writable.{CanBeWritten, HasNames, IsGoalOf, IsLemmaOf, IsPlace, IsStepOf}
+use Rattle.xm_proof.specs.OfNet.{IsGoalOf, IsPlace, IsStepOf}
+use Rattle.xm_proof_writer.specs.Writable.{CanBeWritten, HasNames, IsLemmaOf}
 use Rattle.xm_proof_writer.specs.Writing.{goal_data, lemma_data, proof_data, step_data}
 use Rattle.xm_proof_writer.proofs.Columns.{are_columns}
 use Rattle.xm_proof_writer.proofs.Rows.{lemma_again}
@@ -19,11 +20,11 @@ use Rattle.xm_proof_writer.proofs.Steps.{each_again, few_mapped, items_again, li
 
 -- what is known of a goal that is written
 record IsTree (known : Known) (g : Refutation) : Type 0 where
-  goal : IsGoalOf known g
+  goal : IsGoalOf known.net g
   short : IsPlace (length g.steps)
   tree : are_trees 1 g.steps ≡ true
 
-are_written : (known : Known) (gs : List Refutation) → All (IsGoalOf known) gs → All (λ (g : Refutation). length g.steps < 2 ^ 32) gs → All (λ (g : Refutation). are_trees 1 g.steps ≡ true) gs → All (IsTree known) gs
+are_written : (known : Known) (gs : List Refutation) → All (IsGoalOf known.net) gs → All (λ (g : Refutation). length g.steps < 2 ^ 32) gs → All (λ (g : Refutation). are_trees 1 g.steps ≡ true) gs → All (IsTree known) gs
 are_written known gs goals short trees = λ i g lt. record { goal = goals i g lt; short = short i g lt; tree = trees i g lt }
 
 module _ (known : Known) (names : HasNames known) where
@@ -33,7 +34,7 @@ module _ (known : Known) (names : HasNames known) where
       rw (
         literal_again known names (member_of path (codes "goal")) g.lit is.goal.lit,
         items_again (member_of path (codes "tree")) (map (step_data known) g.steps) (few_mapped (step_data known) g.steps is.short),
-        each_again (IsStepOf known) (λ i x. node_at known (place_of (member_of path (codes "tree")) i) x) (step_data known) (λ i s p. step_again known names (place_of (member_of path (codes "tree")) i) s p) 0 g.steps is.goal.steps,
+        each_again (IsStepOf known.net) (λ i x. node_at known (place_of (member_of path (codes "tree")) i) x) (step_data known) (λ i s p. step_again known names (place_of (member_of path (codes "tree")) i) s p) 0 g.steps is.goal.steps,
         is.tree,
       ) refl
 

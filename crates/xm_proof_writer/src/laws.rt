@@ -1,6 +1,6 @@
-//! A law over the definitions. A caller has it as the clause of a call.
+//! Laws over the definitions. A caller has each as the clause of a call.
 
-ghost use Rattle.xm_proof_writer.specs.Writable.{NamesTell};
+ghost use Rattle.xm_proof_writer.specs.Writable.{InvariantsCanBeWritten, NamesTell};
 
 use xm_writer::names_found;
 
@@ -9,4 +9,10 @@ pub fn names_tell()
     ensures { NamesTell }
 {
     names_found();
+}
+
+/// The invariants that an elimination leaves can be written.
+pub fn invariants_can_be_written()
+    ensures { InvariantsCanBeWritten }
+{
 }

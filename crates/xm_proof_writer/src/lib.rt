@@ -10,5 +10,5 @@ mod nodes;
 mod values;
 mod write;
 
-pub use laws::names_tell;
+pub use laws::{invariants_can_be_written, names_tell};
 pub use write::write_proof;

@@ -13,12 +13,15 @@ use Rattle.xm_tape.specs.Fault as tape
 
 -- ---- wiring: the channel, and the two primitives where there are two
 
+abbrev pub fault_text : Naming → List ℕ → ℕ → List ℕ
+fault_text names word c = codes "net: " ++ word ++ codes " " ++ name_at names.channels c
+
 abbrev pub channel_fault : Naming → List ℕ → ℕ → List ℕ
-channel_fault names word c = line (codes "net: " ++ word ++ codes " " ++ name_at names.channels c)
+channel_fault names word c = line (fault_text names word c)
 
 abbrev pub pair_fault : Naming → List ℕ → ℕ → ℕ → ℕ → List ℕ
-pair_fault names word c p q = line (codes "net: " ++ word ++ codes " " ++ name_at names.channels c
-    ++ codes " " ++ name_at names.prims p ++ codes " " ++ name_at names.prims q)
+pair_fault names word c p q =
+    line (fault_text names word c ++ codes " " ++ name_at names.prims p ++ codes " " ++ name_at names.prims q)
 
 abbrev pub wiring_line : Naming → WiringFault → List ℕ
 wiring_line names (NoInitiator c) = channel_fault names (codes "no initiator") c

@@ -1,10 +1,11 @@
 //! The lines of error, one for each cause of refusal.
 
 ghost use Rattle.std.specs.Prelude.{◌≡◌, ◌++◌, ◌==◌, [], if◌then◌else◌, codes, decimal, IfOk, OnOk, Some};
-ghost use Rattle.xm_model.specs.TextLines.{line};
+ghost use Rattle.xm_model.specs.TextLines.{line, name_at};
 ghost use Rattle.xm_model.specs.Naming.{naming_of};
 ghost use Rattle.xm_report.specs.Lines as spec;
-ghost use Rattle.xm_report.specs.Lines.{channel_fault, pair_fault, path_line, signal_text, signals_text, which_text};
+ghost use Rattle.xm_report.specs.Lines.{channel_fault, fault_text, pair_fault, path_line, signal_text, signals_text};
+ghost use Rattle.xm_report.specs.Lines.{which_text};
 ghost use Rattle.xm_shape.specs.Gives.{fault_of};
 ghost use Rattle.xm_tape.specs.Gives as tape;
 
@@ -15,15 +16,30 @@ use xm_order::Signal;
 use xm_shape::{DocFault, Which};
 use xm_tape::TapeFault;
 
+/// Appends the words of a fault at channel `c`.
+fn push_fault(text: &mut Text, names: &Names, word: &[u8], c: u32) -> Result<(), OutOfMemory>
+    ensures { OnOk result (text.new.items ≡ text.old.items ++ fault_text (naming_of names.now) word.now c) }
+{
+    text.push_bytes(b"net: ")?;
+    text.push_bytes(word)?;
+    text.push_bytes(b" ")?;
+    push_name(text, names.channels.as_slice(), c as usize)
+}
+
+/// Appends a space and the name of primitive `p`.
+fn push_prim(text: &mut Text, names: &Names, p: u32) -> Result<(), OutOfMemory>
+    ensures { OnOk result (text.new.items ≡ text.old.items ++ codes " " ++ name_at (naming_of names.now).prims p) }
+{
+    text.push_bytes(b" ")?;
+    push_name(text, names.prims.as_slice(), p as usize)
+}
+
 /// The line of a fault at channel `c`.
 fn channel_line(alloc: Global, names: &Names, word: &[u8], c: u32) -> Result<Text, OutOfMemory>
     ensures { IfOk result (λ text. text.items ≡ channel_fault (naming_of names.now) word.now c) }
 {
     let mut text = Text::new(alloc);
-    text.push_bytes(b"net: ")?;
-    text.push_bytes(word)?;
-    text.push_bytes(b" ")?;
-    push_name(&mut text, names.channels.as_slice(), c as usize)?;
+    push_fault(&mut text, names, word, c)?;
     text.push_bytes(b"\n")?;
     Ok(text)
 }
@@ -40,14 +56,9 @@ fn pair_line(
     ensures { IfOk result (λ text. text.items ≡ pair_fault (naming_of names.now) word.now c p q) }
 {
     let mut text = Text::new(alloc);
-    text.push_bytes(b"net: ")?;
-    text.push_bytes(word)?;
-    text.push_bytes(b" ")?;
-    push_name(&mut text, names.channels.as_slice(), c as usize)?;
-    text.push_bytes(b" ")?;
-    push_name(&mut text, names.prims.as_slice(), p as usize)?;
-    text.push_bytes(b" ")?;
-    push_name(&mut text, names.prims.as_slice(), q as usize)?;
+    push_fault(&mut text, names, word, c)?;
+    push_prim(&mut text, names, p)?;
+    push_prim(&mut text, names, q)?;
     text.push_bytes(b"\n")?;
     Ok(text)
 }

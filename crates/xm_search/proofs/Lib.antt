@@ -1,2 +1,3 @@
+pub mod OfNet
 pub mod Steps
 pub mod Walks

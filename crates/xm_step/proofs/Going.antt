@@ -19,6 +19,8 @@ use Rattle.xm_model.specs.declared.primitive.SinkMode.{SinkMode}
 use Rattle.xm_model.specs.declared.primitive.SourceMode.{SourceMode}
 use Rattle.xm_step.specs.Roomy.{IsRoomy, IsRoomyCell, cell_at}
 use Rattle.xm_step.specs.declared.kinds.QueuePlace.{QueuePlace}
+use Rattle.xm_model.specs.Ports.{queue_input, queue_output}
+use Rattle.xm_plan.specs.Schedule.{ArePlaced}
 use Rattle.xm_running.specs.Passing.{HasRoom, passed}
 use Rattle.xm_step.proofs.Advancing.{gone_more}
 
@@ -149,6 +151,13 @@ nothing_went (Fork i p q t u) x y φ can went = record { content = ap content_of
 nothing_went (Join p q o s) x y φ can went = record { content = ap content_of went; roomy = tt; room = refl }
 nothing_went (Switch i p q t) x y φ can went = record { content = ap content_of went; roomy = tt; room = refl }
 nothing_went (Merge p q o) x y φ can went = let h = can.0 in absurd cc
+
+-- the channels of a queue are places
+pub queue_placed : (ms : List Component) (n : ℕ) (queues : List QueuePlace) (others : List Holder) → AreKindsTo ms n queues others → (places : ℕ) → ArePlaced ms places → (k : ℕ) (it : QueuePlace) → slice_get queues k ≡ Some it →
+    (it.input < places) × (it.out < places)
+queue_placed ms n queues others kinds places placed k it at =
+    let has = (kinds.queue_at k it at).0.has in
+    (placed it.prim _ it.input has (inr queue_input), placed it.prim _ it.out has (inl queue_output))
 
 module _ (ms : List Component) (old : List Cell) (φ : Signals) (queues : List QueuePlace) (others : List Holder) (n : ℕ) (kinds : AreKindsTo ms n queues others) (roomy : IsRoomy ms old) (guarded : IsGuardedBy ms old φ) (whole : n ≡ length old) where
   queue_fresh : (k : ℕ) (it : QueuePlace) → slice_get queues k ≡ Some it → IsAmongQueues queues k it.prim → ⊥

@@ -1,4 +1,3 @@
-mod Halving
 mod Over
 mod Stepped
 pub mod Within

@@ -9,8 +9,10 @@ use Rattle.xm_order.specs.Lemmas.Items.{push_cases}
 use Rattle.xm_parts.specs.Far.{AreFarFrom, SetFrom}
 use Rattle.xm_parts.specs.Partition.{channels_in}
 use Rattle.xm_parts.specs.Passing.{passing}
-use Rattle.xm_parts.specs.Projection.{wire_of}
-use Rattle.xm_tests.specs.Inner.Stepped.{AreSetFrom}
+use Rattle.xm_parts.specs.Projection.{IsCycle, far_moves, wire_of}
+use Rattle.xm_parts.specs.Rows.{row_of}
+use Rattle.xm_parts.specs.declared.row.PartRow.{PartRow}
+use Rattle.xm_tests.specs.Inner.Stepped.{AreRows, AreSetFrom}
 
 -- what holds of each item holds of each where one more stands at the end
 pub push_each : {X : Type 0} (P : ℕ → X → Type 0) (xs : List X) (y : X) (n : ℕ) → length xs ≡ n → ((k : ℕ) (x : X) → slice_get xs k ≡ Some x → P k x) → P n y →
@@ -20,6 +22,11 @@ push_each {X} P xs y n len each last k x at =
       | inl h ↦ each k x h
       | inr h ↦ (let place : n ≡ k = (let is = h.0 in omega arith) in subst (λ (z : X). P k z) h.1 (subst (λ (i : ℕ). P i y) place last))
     ]
+
+-- one of the rows, with its far moves, is of the cycle that all are of
+pub cycle_of : {net : Network} {label : ℕ → ℕ} {count : ℕ} {rows : List PartRow} (h : AreRows net label count rows) (p : ℕ) (row : PartRow) (far : List (Option ℕ)) → slice_get rows p ≡ Some row →
+    far ≡ far_moves net label p h.frame → IsCycle net label p (row_of row) far
+cycle_of h p row far at is = record { state = h.state; choices = h.choices; frame = h.frame; is_frame = h.is_frame; row_is = h.of.are p row at; far_is = is }
 
 -- no more numbers pass than there are
 pub passing_few : (test : ℕ → Bool) (n : ℕ) → length (passing test n) ≤ n

@@ -1,5 +1,4 @@
 -- What private clauses cite, and no public one.
 pub mod Fitting
-pub mod Halved
 pub mod Over
 pub mod Stepped

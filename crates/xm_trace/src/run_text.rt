@@ -11,9 +11,9 @@ use itoa::Buffer;
 use std::alloc::Global;
 use std::marker::Model;
 use xm_design::Design;
-use xm_model::{Frame, List, Names, OutOfMemory, Text};
+use xm_model::{List, Names, OutOfMemory, Text};
 use xm_running::Running;
-use xm_step::{Evaluator, blank, step_running};
+use xm_step::{Evaluator, RunningFrame, running_frame, step_running};
 use xm_tape::Rows;
 
 /// How often a colour moved on a channel, where it did.
@@ -56,6 +56,7 @@ impl RunText {
     ghost use Rattle.xm_model.specs.Naming.{Naming, naming_of};
     ghost use Rattle.xm_model.specs.Run.{moves};
     ghost use Rattle.xm_model.specs.Signals.{Signals};
+    ghost use Rattle.xm_step.specs.InStep.{IsInStep};
     ghost use Rattle.xm_step.specs.Roomy.{SameRooms};
     ghost use Rattle.xm_step.specs.Still.{AreStill};
     ghost use Rattle.xm_tape.specs.Taped.{cycles_of};
@@ -101,7 +102,7 @@ impl RunText {
         texts: &MoveTexts,
         rows: &mut Rows<'_>,
         running: &mut Running,
-        frame: &mut Frame,
+        frame: &mut RunningFrame,
         digits: &[u8],
         lines: &mut Lines,
     )
@@ -115,7 +116,7 @@ impl RunText {
         requires row { rows.old.cycle ≡ self.old.cycles }
         requires within { self.old.cycles < cycles_of rows.old.tape }
         requires counted { self.old.cycles + 1 < 2 ^ 32 }
-        requires wires { length frame.old.wires.items ≡ evaluator.now.net.channels }
+        requires in_step { IsInStep evaluator.now.net running.old.slots.items frame.old }
         requires room { length lines.old.items
             + (length digits.now + evaluator.now.net.channels * move_room texts.now + 1) ≤ lines.old.room }
         ensures here { IsUnderway evaluator.now.net rows.old.tape self.new running.new.slots.items }
@@ -127,7 +128,7 @@ impl RunText {
         ensures row { rows.new.cycle ≡ self.new.cycles }
         ensures channels { self.new.channels ≡ self.old.channels }
         ensures colours { self.new.colours ≡ self.old.colours }
-        ensures wires { length frame.new.wires.items ≡ evaluator.now.net.channels }
+        ensures in_step { IsInStep evaluator.now.net running.new.slots.items frame.new }
         ensures rooms { SameRooms evaluator.now.net.prims running.old.slots.items running.new.slots.items }
         ensures room { running.new.slots.room ≡ running.old.slots.room }
     {
@@ -139,7 +140,7 @@ impl RunText {
             self.colours as usize,
             self.cycles,
             digits,
-            frame.wires.as_slice(),
+            frame.frame.wires.as_slice(),
         );
         self.cycles += 1;
         rows.advance();
@@ -183,7 +184,7 @@ impl RunText {
         let design = evaluator.design();
         let texts = labels.texts();
         let most = room_of_moves(texts, design.net().channels());
-        let mut frame = blank(alloc, design)?;
+        let mut frame = running_frame(alloc, design)?;
         while self.cycles() < to {
             let mut number = Buffer::new();
             let digits = number.format(self.cycles()).as_bytes();

@@ -1,7 +1,7 @@
 -- Inner: one cell past a cycle, and at reset. No public clause cites these.
-use Rattle.std.specs.Prelude.{◌≡◌, ℕ, List, [], length, slice_get, Some}
+use Rattle.std.specs.Prelude.{◌≡◌, ℕ, Bool, false, List, [], length, slice_get, None, Some}
 use Rattle.xm_model.specs.Component.{Component, Queue, content_of}
-use Rattle.xm_model.specs.Next.{reset_content}
+use Rattle.xm_model.specs.Next.{move, reset_content}
 use Rattle.xm_model.specs.Signals.{Signals, packets_in}
 use Rattle.xm_model.specs.declared.state.Cell.{Cell}
 use Rattle.xm_step.specs.Advanced.{IsAdvanced, IsGuarded}
@@ -38,6 +38,16 @@ pub record KeptAdvance (ms : List Component) (old new : List Cell) (φ : Signals
   pub advanced : (p : ℕ) (m : Component) → slice_get ms p ≡ Some m → (HoldsNothing m → ⊥) →
       IsAdvanced m (cell_at old p) (cell_at new p) φ
   pub rest : (p : ℕ) (m : Component) → slice_get ms p ≡ Some m → HoldsNothing m → cell_at new p ≡ cell_at old p
+
+-- nothing passes the queue in this cycle
+abbrev pub IsIdle : Component → Signals → Type 0
+IsIdle (Queue input out _ _) φ = (move φ out ≡ None) × (move φ input ≡ None)
+IsIdle _ φ = Unit {0}
+
+-- nothing passed a queue that is noted as unchanged
+abbrev pub AreNoted : List Component → List Bool → Signals → Type 0
+AreNoted ms changed φ =
+    (p : ℕ) (m : Component) → slice_get ms p ≡ Some m → slice_get changed p ≡ Some false → IsIdle m φ
 
 -- the cell is that at reset, with its room
 pub record IsResetCell (m : Component) (x : Cell) : Type 0 where

@@ -1,6 +1,6 @@
 //! The colours of channels, and what a list of allowed colours refuses.
 
-use super::nets::{Entry, Piece, X, Y, allow_of, may_have, net_of};
+use super::nets::{Entry, ONE_WAY_SWITCH, Piece, X, Y, allow_of, may_have, net_of};
 use std::alloc::Global;
 use xm_colours::{ColourFault, Colours, allowed, infer};
 use xm_model::{List, Net, SinkMode, SourceMode};
@@ -35,14 +35,6 @@ fn is_inferred(
 ) -> bool {
     net_of(alloc, pieces, channels, colours).is_some_and(|net| infers(alloc, &net, sets, pairs))
 }
-
-/// A switch that sends its one colour to side b.
-const ONE_WAY_SWITCH: [Piece; 4] = [
-    Piece::Source(0, &[X], SourceMode::Keep),
-    Piece::Switch(0, 1, 2, &[false]),
-    Piece::Sink(1, SinkMode::Keep),
-    Piece::Sink(2, SinkMode::Keep),
-];
 
 /// A source of x, and a queue that begins with y.
 const FIRST_Y: [Piece; 3] = [

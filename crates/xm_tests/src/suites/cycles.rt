@@ -1,6 +1,6 @@
 //! Two cycles, one after the other, of nets with each kind of primitive.
 
-use super::nets::{Piece, ROW, X, Y, design_of};
+use super::nets::{MOVES_X, Piece, ROW, WAITS, X, Y, design_of};
 use std::alloc::Global;
 use xm_design::Design;
 use xm_model::{Choice, Frame, OutOfMemory, Side, SinkMode, SourceMode, Wire};
@@ -16,12 +16,6 @@ const READY: Choice = Choice::Ready(true);
 
 const CLOSED: Choice = Choice::Ready(false);
 
-/// A channel on which x moves.
-const MOVES_X: Wire = Wire {
-    offer: Some(X),
-    ready: true,
-};
-
 /// A channel on which y moves.
 const MOVES_Y: Wire = Wire {
     offer: Some(Y),
@@ -32,12 +26,6 @@ const MOVES_Y: Wire = Wire {
 const STALLS_X: Wire = Wire {
     offer: Some(X),
     ready: false,
-};
-
-/// A channel that is ready, where nothing is offered.
-const WAITS: Wire = Wire {
-    offer: None,
-    ready: true,
 };
 
 /// A channel on which y is offered and refused.

@@ -123,6 +123,7 @@ fn is_overflow(found: Result<Decision, LpFault>, pivots: u64) -> bool {
     }
 }
 
+/// A column of at least 1 is 1, after one pivot.
 fn one_is_one(rt: &impl Abort, alloc: Global) -> Result<bool, OutOfMemory> {
     let constraints = constraints_of(rt, alloc, &[at_least(of(&[at(0, 1)], 1))])?;
     Ok(
@@ -132,13 +133,7 @@ fn one_is_one(rt: &impl Abort, alloc: Global) -> Result<bool, OutOfMemory> {
     )
 }
 
-#[test]
-fn a_column_of_at_least_one_is_one(rt: HostRuntime) -> Result<(), Fail> {
-    let holds = one_is_one(&rt, rt.alloc())?;
-    assert!(rt; holds);
-    Ok(())
-}
-
+/// It is not at most 0 too.
 fn is_refuted(rt: &impl Abort, alloc: Global) -> Result<bool, OutOfMemory> {
     let up = [at(0, 1)];
     let down = [at(0, -1)];
@@ -147,13 +142,7 @@ fn is_refuted(rt: &impl Abort, alloc: Global) -> Result<bool, OutOfMemory> {
     Ok(is_infeasible(decided(rt, alloc, &constraints, 1, 10), &[1, 1], &[0], 0))
 }
 
-#[test]
-fn it_is_not_at_most_zero_too(rt: HostRuntime) -> Result<(), Fail> {
-    let holds = is_refuted(&rt, rt.alloc())?;
-    assert!(rt; holds);
-    Ok(())
-}
-
+/// First sums may leave 128 bits.
 fn overflows(rt: &impl Abort, alloc: Global) -> Result<bool, OutOfMemory> {
     let large = [at(0, HALF)];
     let constraints = constraints_of(
@@ -164,13 +153,7 @@ fn overflows(rt: &impl Abort, alloc: Global) -> Result<bool, OutOfMemory> {
     Ok(is_overflow(decided(rt, alloc, &constraints, 1, 10), 0))
 }
 
-#[test]
-fn first_sums_may_leave_128_bits(rt: HostRuntime) -> Result<(), Fail> {
-    let holds = overflows(&rt, rt.alloc())?;
-    assert!(rt; holds);
-    Ok(())
-}
-
+/// Fractions have their least denominator.
 fn is_half(rt: &impl Abort, alloc: Global) -> Result<bool, OutOfMemory> {
     let sum = [at(0, 2), at(1, 4)];
     let difference = [at(0, 2), at(1, -2)];
@@ -180,8 +163,15 @@ fn is_half(rt: &impl Abort, alloc: Global) -> Result<bool, OutOfMemory> {
 }
 
 #[test]
-fn fractions_have_their_least_denominator(rt: HostRuntime) -> Result<(), Fail> {
-    let holds = is_half(&rt, rt.alloc())?;
-    assert!(rt; holds);
+fn a_decision_is_a_point_a_refutation_or_an_overflow(rt: HostRuntime) -> Result<(), Fail> {
+    let alloc = rt.alloc();
+    let point = one_is_one(&rt, alloc)?;
+    let refuted = is_refuted(&rt, alloc)?;
+    let large = overflows(&rt, alloc)?;
+    let fraction = is_half(&rt, alloc)?;
+    assert!(rt; point);
+    assert!(rt; refuted);
+    assert!(rt; large);
+    assert!(rt; fraction);
     Ok(())
 }

@@ -3,7 +3,7 @@
 ghost use Rattle.std.specs.Prelude.{◌<◌, All, IsTrue};
 ghost use Rattle.xm_flow.specs.Holding.{IsFlowOf};
 
-use super::nets::{Piece, X, Y, design_of};
+use super::nets::{CREDITS, FORK_JOIN, Piece, X, Y, design_of};
 use std::alloc::Global;
 use xm_design::Design;
 use xm_elim::invariants;
@@ -22,26 +22,6 @@ struct Wanted<'a> {
 fn sum<'a>(entries: &'a [(u32, i128)], constant: i128) -> Wanted<'a> {
     Wanted { entries, constant }
 }
-
-/// A fork, a queue on each of its sides, and a join.
-pub const FORK_JOIN: [Piece; 6] = [
-    Piece::Source(0, &[X], SourceMode::Keep),
-    Piece::Fork(0, 1, 2, &[X], &[X]),
-    Piece::Queue(1, 3, 2, &[]),
-    Piece::Queue(2, 4, 2, &[]),
-    Piece::Join(3, 4, 5, Side::A),
-    Piece::Sink(5, SinkMode::Keep),
-];
-
-/// Two credits that go round, and packets that go with one each.
-pub const CREDITS: [Piece; 6] = [
-    Piece::Source(0, &[X], SourceMode::Eager),
-    Piece::Join(0, 1, 2, Side::A),
-    Piece::Queue(2, 3, 2, &[]),
-    Piece::Fork(3, 4, 5, &[X], &[X]),
-    Piece::Sink(4, SinkMode::Keep),
-    Piece::Queue(5, 1, 2, &[X, X]),
-];
 
 /// A queue that feeds itself, with one packet.
 pub const SELF_FED: [Piece; 1] = [Piece::Queue(0, 0, 2, &[X])];

@@ -5,8 +5,8 @@ ghost use Rattle.xm_elim.specs.Basis.{AreOver, IsConsistent};
 ghost use Rattle.xm_flow.specs.Holding.{IsFlowOf};
 ghost use Rattle.xm_tests.specs.Inner.Over.{IsOver};
 
-use super::flow_rows::{CREDITS, FORK_JOIN, SELF_FED};
-use super::nets::{Piece, ROW, design_of};
+use super::flow_rows::SELF_FED;
+use super::nets::{CREDITS, FORK_JOIN, Piece, ROW, design_of};
 use super::rows::{EDGE, HALF, RowParts, at, is_row, of, row_of};
 use std::alloc::Global;
 use std::process::Abort;

@@ -9,7 +9,7 @@ use std::alloc::Global;
 use xm_design::Design;
 use xm_model::{
     Allow, List, MOST_CHANNELS, MOST_COLOURS, MOST_PRIMITIVES, MOST_SOURCE_COLOURS, Net, NewFault,
-    OutOfMemory, Prim, Side, SinkMode, SourceMode, WiringFault,
+    OutOfMemory, Prim, Side, SinkMode, SourceMode, Wire, WiringFault,
 };
 
 /// The first colour.
@@ -46,6 +46,47 @@ pub const KNOT: [Piece; 4] = [
     Piece::Join(1, 2, 3, Side::A),
     Piece::Sink(3, SinkMode::Keep),
 ];
+
+/// A switch that sends its one colour to side b: a net of 3 channels.
+pub const ONE_WAY_SWITCH: [Piece; 4] = [
+    Piece::Source(0, &[X], SourceMode::Keep),
+    Piece::Switch(0, 1, 2, &[false]),
+    Piece::Sink(1, SinkMode::Keep),
+    Piece::Sink(2, SinkMode::Keep),
+];
+
+/// A fork, a queue on each of its sides, and a join: a net of 6 channels and 1 colour.
+pub const FORK_JOIN: [Piece; 6] = [
+    Piece::Source(0, &[X], SourceMode::Keep),
+    Piece::Fork(0, 1, 2, &[X], &[X]),
+    Piece::Queue(1, 3, 2, &[]),
+    Piece::Queue(2, 4, 2, &[]),
+    Piece::Join(3, 4, 5, Side::A),
+    Piece::Sink(5, SinkMode::Keep),
+];
+
+/// Two credits that go round, and packets that go with one each and give it back on their way to the sink: a net of
+/// 6 channels and 1 colour.
+pub const CREDITS: [Piece; 6] = [
+    Piece::Source(0, &[X], SourceMode::Eager),
+    Piece::Join(0, 1, 2, Side::A),
+    Piece::Queue(2, 3, 2, &[]),
+    Piece::Fork(3, 4, 5, &[X], &[X]),
+    Piece::Sink(4, SinkMode::Keep),
+    Piece::Queue(5, 1, 2, &[X, X]),
+];
+
+/// A channel on which x moves.
+pub const MOVES_X: Wire = Wire {
+    offer: Some(X),
+    ready: true,
+};
+
+/// A channel that is ready, where nothing is offered.
+pub const WAITS: Wire = Wire {
+    offer: None,
+    ready: true,
+};
 
 fn list_of<T: Copy>(alloc: Global, items: &[T]) -> Result<List<T>, OutOfMemory> {
     let mut list = List::new(alloc);

@@ -1,6 +1,6 @@
 //! Orders of signals, and loops.
 
-use super::nets::{Piece, X, net_of};
+use super::nets::{FORK_JOIN, Piece, X, net_of};
 use std::alloc::Global;
 use xm_model::{List, Net, OutOfMemory, Side, SinkMode, SourceMode};
 use xm_order::{OrderFault, Signal, order};
@@ -50,15 +50,7 @@ fn a_fork_that_closes_in_a_join_is_a_loop(rt: HostRuntime) {
 
 #[test]
 fn queues_between_fork_and_join_give_an_order(rt: HostRuntime) {
-    let pieces = [
-        Piece::Source(0, &[X], SourceMode::Keep),
-        Piece::Fork(0, 1, 2, &[X], &[X]),
-        Piece::Queue(1, 3, 1, &[]),
-        Piece::Queue(2, 4, 1, &[]),
-        Piece::Join(3, 4, 5, Side::A),
-        Piece::Sink(5, SinkMode::Keep),
-    ];
-    assert!(rt; is_ordered(rt.alloc(), &pieces, 6, 12));
+    assert!(rt; is_ordered(rt.alloc(), &FORK_JOIN, 6, 12));
 }
 
 #[test]

@@ -15,11 +15,11 @@ ghost use Rattle.xm_parts.specs.Rows.{IsRoomyRow, row_of};
 ghost use Rattle.xm_tape.specs.Taped.{Fits, cycles_of};
 ghost use Rattle.xm_tests.specs.Inner.Stepped.{AreRows, AreRowsOf, AreSetFrom, IsUnderway};
 
-use super::nets::{Piece, X, design_of};
+use super::nets::{CREDITS, Piece, ROW, X, design_of};
 use super::parts::QUEUES;
 use std::alloc::Global;
 use xm_design::{Design, fits_next};
-use xm_model::{Cell, Choice, Frame, List, OutOfMemory, Side, SinkMode, SourceMode, State};
+use xm_model::{Cell, Choice, Frame, List, OutOfMemory, SinkMode, SourceMode, State};
 use xm_order::one_frame;
 use xm_parts::{
     Change, FarMoves, PartRow, Parts, PrimCell, apply, capacity_law, change, change_law, far,
@@ -31,69 +31,24 @@ use xm_tape::{Rows, Tape};
 /// How many cycles of a net are compared.
 const CYCLES: u32 = 50;
 
-/// A net of one colour, and in how many parts it is run.
-#[derive(Clone, Copy)]
-struct Case<'a> {
-    pieces: &'a [Piece<'a>],
-    channels: u32,
-    parts: u32,
-}
+/// A merge between queues: a net of 6 channels.
+const MERGED: [Piece; 7] = [
+    Piece::Source(0, &[X], SourceMode::Keep),
+    Piece::Source(1, &[X], SourceMode::Fair),
+    Piece::Queue(0, 2, 2, &[]),
+    Piece::Queue(1, 3, 1, &[]),
+    Piece::Merge(2, 3, 4),
+    Piece::Queue(4, 5, 2, &[]),
+    Piece::Sink(5, SinkMode::Free),
+];
 
-/// A source takes a credit for each packet, and the packet gives it back on its way to the sink. Both queues are
-/// cut.
-const CREDITS: Case = Case {
-    pieces: &[
-        Piece::Source(0, &[X], SourceMode::Eager),
-        Piece::Join(0, 1, 2, Side::A),
-        Piece::Queue(2, 3, 2, &[]),
-        Piece::Fork(3, 4, 5, &[X], &[X]),
-        Piece::Sink(4, SinkMode::Keep),
-        Piece::Queue(5, 1, 2, &[X, X]),
-    ],
-    channels: 6,
-    parts: 2,
-};
-
-/// Four queues in a row, each of them cut.
-const CUT_ROW: Case = Case {
-    pieces: &QUEUES,
-    channels: 5,
-    parts: 5,
-};
-
-/// Four queues in a row, of which one is cut. The others lie between two channels of one part.
-const HALVED_ROW: Case = Case {
-    pieces: &QUEUES,
-    channels: 5,
-    parts: 2,
-};
-
-/// A merge between queues.
-const MERGED: Case = Case {
-    pieces: &[
-        Piece::Source(0, &[X], SourceMode::Keep),
-        Piece::Source(1, &[X], SourceMode::Fair),
-        Piece::Queue(0, 2, 2, &[]),
-        Piece::Queue(1, 3, 1, &[]),
-        Piece::Merge(2, 3, 4),
-        Piece::Queue(4, 5, 2, &[]),
-        Piece::Sink(5, SinkMode::Free),
-    ],
-    channels: 6,
-    parts: 4,
-};
-
-/// A queue that feeds itself, beside a row.
-const FED: Case = Case {
-    pieces: &[
-        Piece::Source(0, &[X], SourceMode::Keep),
-        Piece::Queue(0, 1, 1, &[]),
-        Piece::Sink(1, SinkMode::Keep),
-        Piece::Queue(2, 2, 2, &[X]),
-    ],
-    channels: 3,
-    parts: 3,
-};
+/// A queue that feeds itself, beside a row: a net of 3 channels.
+const FED: [Piece; 4] = [
+    Piece::Source(0, &[X], SourceMode::Keep),
+    Piece::Queue(0, 1, 1, &[]),
+    Piece::Sink(1, SinkMode::Keep),
+    Piece::Queue(2, 2, 2, &[X]),
+];
 
 fn is_same_cell(one: &Cell, other: &Cell) -> bool {
     match (one, other) {
@@ -216,8 +171,8 @@ fn changed(
     requires design { parts.now.design ≡ design.now }
     requires part { p < parts.now.count }
     requires roomy { IsRoomyRow design.now.net (label_at parts.now.labels) p row.now }
-    requires can { CanChange (row_of row.now) (row_of newer.now) }
-    requires within { IsWithinCapacities design.now.net (row_of newer.now) }
+    requires newer { CanChange (row_of row.now) (row_of newer.now)
+        × IsWithinCapacities design.now.net (row_of newer.now) }
     ensures row { IfOk result (λ made. row_of made ≡ row_of newer.now) }
     ensures roomy { IfOk result (IsRoomyRow design.now.net (label_at parts.now.labels) p) }
 {
@@ -377,20 +332,20 @@ fn steps_in_parts(alloc: Global, design: &Design, count: u32) -> bool {
     }
 }
 
-fn steps_alone(alloc: Global, case: Case) -> bool {
-    let design = design_of(alloc, case.pieces, case.channels, 1);
-    design.is_some_and(|design| steps_in_parts(alloc, &design, case.parts))
+/// Whether a net of one colour, run in so many parts, agrees with the whole.
+fn steps_alone(alloc: Global, pieces: &[Piece], channels: u32, parts: u32) -> bool {
+    let design = design_of(alloc, pieces, channels, 1);
+    design.is_some_and(|design| steps_in_parts(alloc, &design, parts))
 }
 
+/// In the row of four queues each queue is cut, and then one, so that the others lie between two channels of one part.
 #[test]
-fn parts_that_share_queues_step_as_the_whole_does(rt: HostRuntime) {
-    assert!(rt; steps_alone(rt.alloc(), CREDITS));
-    assert!(rt; steps_alone(rt.alloc(), CUT_ROW));
-    assert!(rt; steps_alone(rt.alloc(), MERGED));
-}
-
-#[test]
-fn a_queue_within_a_part_steps_as_in_the_whole(rt: HostRuntime) {
-    assert!(rt; steps_alone(rt.alloc(), HALVED_ROW));
-    assert!(rt; steps_alone(rt.alloc(), FED));
+fn parts_that_step_alone_agree_with_the_whole(rt: HostRuntime) {
+    let alloc = rt.alloc();
+    assert!(rt; steps_alone(alloc, &ROW, 2, 2));
+    assert!(rt; steps_alone(alloc, &CREDITS, 6, 2));
+    assert!(rt; steps_alone(alloc, &QUEUES, 5, 5));
+    assert!(rt; steps_alone(alloc, &QUEUES, 5, 2));
+    assert!(rt; steps_alone(alloc, &MERGED, 6, 4));
+    assert!(rt; steps_alone(alloc, &FED, 3, 3));
 }

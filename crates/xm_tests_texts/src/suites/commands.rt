@@ -172,14 +172,11 @@ fn outputs_are_printed(rt: HostRuntime) {
     assert!(rt; all_are_printed(rt.alloc()));
 }
 
+/// Words that are no command.
+const NO_COMMANDS: [&str; 6] = ["", "sim", "check x", "run --", "inv x", "verify x"];
+
 /// Words, a document, the status, and the line of error.
-const REFUSALS: [(&str, &str, u8, &str); 14] = [
-    ("", STREAM, 2, "words\n"),
-    ("sim", STREAM, 2, "words\n"),
-    ("check x", STREAM, 2, "words\n"),
-    ("run --", STREAM, 2, "words\n"),
-    ("inv x", STREAM, 2, "words\n"),
-    ("verify x", STREAM, 2, "words\n"),
+const REFUSALS: [(&str, &str, u8, &str); 8] = [
     ("run", CUT, 3, "document: not JSON\n"),
     (
         "check",
@@ -196,9 +193,12 @@ const REFUSALS: [(&str, &str, u8, &str); 14] = [
 ];
 
 fn all_are_refused(alloc: Global) -> bool {
-    REFUSALS
+    NO_COMMANDS
         .iter()
-        .all(|case| is_told(alloc, case.0, case.1, case.2, case.3))
+        .all(|words| is_told(alloc, *words, STREAM, 2, "words\n"))
+        && REFUSALS
+            .iter()
+            .all(|case| is_told(alloc, case.0, case.1, case.2, case.3))
 }
 
 #[test]

@@ -242,30 +242,17 @@ fn none_is_told(alloc: Global, design: &Design, names: &Names) -> bool {
     is_answer(&read(alloc, design, names, None), "proof")
 }
 
-fn is_worked_of_diamond(alloc: Global) -> bool {
-    match read_document(alloc, DIAMOND.as_bytes()) {
-        Ok(document) => match Design::new(alloc, document.net, &document.allow) {
-            Ok(design) => is_worked(alloc, &design, &document.names),
-            Err(_) => false,
-        },
-        Err(_) => false,
-    }
+/// The worked proof is read, the first break of each other is told, and so is a missing proof.
+fn are_told(alloc: Global, design: &Design, names: &Names) -> bool {
+    is_worked(alloc, design, names)
+        && all_answer(alloc, design, names)
+        && none_is_told(alloc, design, names)
 }
 
-fn all_answer_of_diamond(alloc: Global) -> bool {
+fn are_told_of_diamond(alloc: Global) -> bool {
     match read_document(alloc, DIAMOND.as_bytes()) {
         Ok(document) => match Design::new(alloc, document.net, &document.allow) {
-            Ok(design) => all_answer(alloc, &design, &document.names),
-            Err(_) => false,
-        },
-        Err(_) => false,
-    }
-}
-
-fn none_is_told_of_diamond(alloc: Global) -> bool {
-    match read_document(alloc, DIAMOND.as_bytes()) {
-        Ok(document) => match Design::new(alloc, document.net, &document.allow) {
-            Ok(design) => none_is_told(alloc, &design, &document.names),
+            Ok(design) => are_told(alloc, &design, &document.names),
             Err(_) => false,
         },
         Err(_) => false,
@@ -273,16 +260,6 @@ fn none_is_told_of_diamond(alloc: Global) -> bool {
 }
 
 #[test]
-fn the_worked_proof_is_read(rt: HostRuntime) {
-    assert!(rt; is_worked_of_diamond(rt.alloc()));
-}
-
-#[test]
-fn the_first_break_is_told(rt: HostRuntime) {
-    assert!(rt; all_answer_of_diamond(rt.alloc()));
-}
-
-#[test]
-fn a_missing_proof_is_told(rt: HostRuntime) {
-    assert!(rt; none_is_told_of_diamond(rt.alloc()));
+fn proofs_are_read_or_their_first_break_is_told(rt: HostRuntime) {
+    assert!(rt; are_told_of_diamond(rt.alloc()));
 }

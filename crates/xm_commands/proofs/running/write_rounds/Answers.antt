@@ -63,18 +63,16 @@ returns-in_err-end-clause-front g c = λ text is.
 
 pub returns-clause-whole : goal.returns-clause-whole
 returns-clause-whole g c = λ text is.
-    let underway = c.loop-run.invariant.underway in
     let all : c.loop-run.run.text.cycles ≡ cycles_of c.args.tape.now = omega (arith, c.loop-run.invariant.within, c.loop-run-test.false, c.cycles-cycles.ensures.number) in
-    let same = ended (naming_of c.args.names.now) is.frames all refl (c.in_ok-end.ensures is.frames (underway.here.had is.states is.frames is.run)) is.same in
+    let same = ended (naming_of c.args.names.now) is.frames all refl (c.in_ok-end.ensures is.frames (c.loop-run.invariant.underway.here.had is.states is.frames is.run)) is.same in
     on_ok_goes c.write_text.result
     (λ h. appends_same (g.K.Sink.held c.args.out.now) (g.K.Sink.held c.write_text.new.out) _ _ same (Appends-then (g.K.Sink.held c.args.out.now) (g.K.Sink.held c.loop-run.out) (g.K.Sink.held c.write_text.new.out) _ _ (c.loop-run.invariant.written is.states is.frames is.run) h))
     c.write_text.ensures.whole
 
 pub returns-clause-front : goal.returns-clause-front
 returns-clause-front g c = λ text is.
-    let underway = c.loop-run.invariant.underway in
     let all : c.loop-run.run.text.cycles ≡ cycles_of c.args.tape.now = omega (arith, c.loop-run.invariant.within, c.loop-run-test.false, c.cycles-cycles.ensures.number) in
-    let same = ended (naming_of c.args.names.now) is.frames all refl (c.in_ok-end.ensures is.frames (underway.here.had is.states is.frames is.run)) is.same in
+    let same = ended (naming_of c.args.names.now) is.frames all refl (c.in_ok-end.ensures is.frames (c.loop-run.invariant.underway.here.had is.states is.frames is.run)) is.same in
     on_err_goes c.write_text.result
     (λ h. front_more (g.K.Sink.held c.args.out.now) (g.K.Sink.held c.loop-run.out) (g.K.Sink.held c.write_text.new.out) _ _ _ text (sym same ∙ sym (append-nil _)) (c.loop-run.invariant.written is.states is.frames is.run) h)
     c.write_text.ensures.front

@@ -8,6 +8,7 @@ use Rattle.xm_elim.specs.declared.work.Working.{Working}
 use Rattle.xm_elim.specs.Elimination.{EndsWith, Reaches, begun_from}
 use Rattle.xm_elim.proofs.Bases.{basis_of, rows_bounded, rows_lead}
 use Rattle.xm_elim.proofs.Gathering.{ends_with, fails_refused}
+use Rattle.xm_elim.proofs.Ranking.{ordered}
 use Rattle.xm_elim.proofs.solve.lemmas_left.Goals as goal
 
 pub gather-requires-clause-leads : goal.gather-requires-clause-leads
@@ -46,6 +47,12 @@ returns-in-Ok-clause-basis c =
     c.in_ok-gathered.gathered.failed c.as_slice-rows.ensures c.requires.reaches c.in_ok-gathered.ensures c.in-Ok.ensures.ok in
     basis_of c.combination_keeps_points.ensures c.combination_gives_back_points.ensures c.first_factor_is_positive.ensures c.args.moves c.args.counts c.args.flow.now
     (map lemma_of c.in-Ok.lemmas.items) c.requires.over c.requires.consistent ends.eliminates
+
+pub returns-in-Ok-clause-ordered : goal.returns-in-Ok-clause-ordered
+returns-in-Ok-clause-ordered c =
+    let ends = left c.args.moves c.args.counts c.args.flow.now c.args.it.now.rows.items c.as_slice-rows.result.now c.in_ok-gathered.gathered.lemmas c.in-Ok.lemmas
+    c.in_ok-gathered.gathered.failed c.as_slice-rows.ensures c.requires.reaches c.in_ok-gathered.ensures c.in-Ok.ensures.ok in
+    ordered c.first_factor_is_positive.ensures c.args.moves c.args.counts c.args.flow.now (map lemma_of c.in-Ok.lemmas.items) c.requires.over ends
 
 pub returns-in-Ok-clause-meets : goal.returns-in-Ok-clause-meets
 returns-in-Ok-clause-meets c = λ r s column meets.

@@ -15,7 +15,7 @@ make_some-k-requires-clause-placed g c =
     subst (λ (n : ℕ). ArePlaced (map component_of c.args.prims.now) n) same c.requires.placed
 
 pub loop-k-preserved : goal.loop-k-preserved
-loop-k-preserved g c = record { within = c.make_some-k.ensures.within; settled = c.make_some-k.ensures.settled (signals_of c.args.wires.now) c.loop-k.invariant.settled }
+loop-k-preserved g c = record { within = c.make_some-k.ensures.within; settled = c.make_some-k.ensures.settled (signals_of c.args.wires.now) c.requires.shown c.loop-k.invariant.settled }
 
 pub returns : goal.returns
 returns g c =

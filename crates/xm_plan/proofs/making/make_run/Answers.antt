@@ -3,7 +3,7 @@ use Rattle.std.proofs.lemmas.Option.{slice_get-get_or}
 use Rattle.xm_model.specs.Component.{component_of}
 use Rattle.xm_model.specs.Views.{content_at, signals_of}
 use Rattle.xm_model.specs.declared.primitive.SourceMode.TheVariants as source_mode
-use Rattle.xm_plan.proofs.Settling.{operation_settled}
+use Rattle.xm_plan.proofs.Settling.{left_settled, operation_settled}
 use Rattle.xm_plan.specs.Planned.{choice_for}
 use Rattle.xm_plan.specs.Schedule.{ArePlaced}
 use Rattle.xm_plan.specs.declared.operation.Operation.{Operation}
@@ -17,9 +17,9 @@ loop-k-init g c =
     record {
       later = omega arith;
       within = omega (arith, c.requires.from);
-      settled = λ φ before.
+      settled = λ φ shown before.
           operation_settled _ (content_at (map g.C.HasCell.cell c.args.cells.now)) (choice_for c.args.choices.now c.args.row.now) c.args.operations.now c.requires.schedule φ (signals_of c.args.wires.now) (signals_of c.make.new.wires) c.args.choices.now c.args.from op
-          at (c.requires.fit c.args.from op at) before c.make.ensures;
+          at (c.requires.fit c.args.from op at) before (c.make.ensures (left_settled _ (content_at (map g.C.HasCell.cell c.args.cells.now)) (choice_for c.args.choices.now c.args.row.now) c.args.changed.now c.args.operations.now c.requires.schedule φ (signals_of c.args.wires.now) c.args.choices.now c.args.from op at (c.requires.fit c.args.from op at) shown before));
     }
 
 pub make-requires-in-loop-k-clause-fits : goal.make-requires-in-loop-k-clause-fits
@@ -38,7 +38,7 @@ loop-k-preserved g c =
     record {
       later = omega (arith, c.loop-k.invariant.later);
       within = omega (arith, c.loop-k-test.true);
-      settled = λ φ before.
+      settled = λ φ shown before.
           operation_settled _ (content_at (map g.C.HasCell.cell c.args.cells.now)) (choice_for c.args.choices.now c.args.row.now) c.args.operations.now c.requires.schedule φ (signals_of c.loop-k.wires) (signals_of c.make-in-loop-k.new.wires) c.args.choices.now c.loop-k.k op
-          at (c.requires.fit c.loop-k.k op at) (c.loop-k.invariant.settled φ before) c.make-in-loop-k.ensures;
+          at (c.requires.fit c.loop-k.k op at) (c.loop-k.invariant.settled φ shown before) (c.make-in-loop-k.ensures (left_settled _ (content_at (map g.C.HasCell.cell c.args.cells.now)) (choice_for c.args.choices.now c.args.row.now) c.args.changed.now c.args.operations.now c.requires.schedule φ (signals_of c.loop-k.wires) c.args.choices.now c.loop-k.k op at (c.requires.fit c.loop-k.k op at) shown (c.loop-k.invariant.settled φ shown before)));
     }

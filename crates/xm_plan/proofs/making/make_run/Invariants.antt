@@ -12,5 +12,5 @@ abbrev pub invariant-loop-k : goal.invariant-loop-k
 invariant-loop-k g l = record {
   later : l.fn.from < l.k;
   within : l.k ≤ length l.operations;
-  settled : SettlesOn (map component_of l.prims) (content_at (map g.C.HasCell.cell l.cells)) (choice_for l.choices l.row) l.operations l.fn.from (signals_of l.fn.wires) l.k (signals_of l.wires);
+  settled : SettlesOn (map component_of l.prims) (content_at (map g.C.HasCell.cell l.cells)) (choice_for l.choices l.row) l.changed l.operations l.fn.from (signals_of l.fn.wires) l.k (signals_of l.wires);
 }

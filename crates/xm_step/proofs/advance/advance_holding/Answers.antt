@@ -1,14 +1,18 @@
 use Rattle.std.proofs.Common.{ap, ap₂, refl, ◌∙◌}
 use Rattle.xm_model.specs.Next.{next_held, next_pending}
 use Rattle.xm_model.specs.declared.state.Cell.TheVariants as cell
-use Rattle.xm_step.proofs.Going.{held_went, nothing_went, packets_went, pending_went, pref_went, queue_of}
+use Rattle.xm_step.proofs.Going.{held_went, nothing_went, packets_went, pass_has_room, pass_went, pending_went, pref_went, queue_of}
 use Rattle.xm_step.proofs.advance.advance_holding.Goals as goal
 
-pub advance_queue_cell-requires : goal.advance_queue_cell-requires
-advance_queue_cell-requires g c = queue_of c.requires.0 _ _ c.in-Packets.input c.in-Packets.out (rw c.in-Packets.is at c.requires.1)
+pub pass_any-requires : goal.pass_any-requires
+pass_any-requires g c =
+    let can = queue_of c.requires.0 _ _ c.in-Packets.input c.in-Packets.out (rw c.in-Packets.is at c.requires.1) in
+    pass_has_room c.in-Packets.input c.in-Packets.out can.0 _ _ _ c.moved_at-in-Packets.ensures can.1
 
 pub returns-in-Packets : goal.returns-in-Packets
-returns-in-Packets g c = λ m can. packets_went m _ _ _ c.in-Packets.input c.in-Packets.out (rw c.in-Packets.is at can) c.advance_queue_cell.ensures
+returns-in-Packets g c = λ m can.
+    packets_went m _ _ _ c.in-Packets.input c.in-Packets.out (rw c.in-Packets.is at can)
+    (λ capacity initial goes. pass_went c.in-Packets.input c.in-Packets.out capacity initial _ _ _ _ _ c.moved_at.ensures c.moved_at-in-Packets.ensures c.pass_any.ensures.passed goes)
 
 pub returns-in-Pending : goal.returns-in-Pending
 returns-in-Pending g c = λ m can.

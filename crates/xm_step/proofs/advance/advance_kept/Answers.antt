@@ -6,8 +6,9 @@ use Rattle.xm_step.specs.Inner.Kinds.{AreKindsTo}
 use Rattle.xm_step.specs.declared.kinds.Holder.{Holder}
 use Rattle.xm_step.specs.declared.kinds.Holding.TheVariants as holding
 use Rattle.xm_step.specs.declared.kinds.QueuePlace.{QueuePlace}
-use Rattle.xm_step.proofs.Going.{all_gone, both_from_queues}
+use Rattle.xm_step.proofs.Going.{all_gone, both_from_queues, pass_has_room, pass_went, queue_placed}
 use Rattle.xm_step.proofs.Mapped.{other_can_by, other_gone_by, other_within_by, queue_can_by, queue_gone_by, queue_within_by, same_length}
+use Rattle.xm_step.proofs.Noting.{all_noted, noted_more}
 use Rattle.xm_step.proofs.advance.advance_kept.Goals as goal
 
 pub bounds-cells-queue : goal.bounds-cells-queue
@@ -16,32 +17,61 @@ bounds-cells-queue g c =
     let kinds : AreKindsTo ms (length ms) c.as_slice-queues.result.now c.as_slice-others.result.now = rw (c.as_slice-queues.ensures, c.as_slice-others.ensures) c.kinds-kinds.ensures in
     let it : QueuePlace = get_or c.as_slice-queues.result.now c.loop-k.k (record { prim = 0; input = 0; out = 0 }) in
     queue_within_by g.C.HasCell.cell ms c.args.cells.now (signals_of c.args.wires.now) c.as_slice-queues.result.now c.as_slice-others.result.now (length ms) kinds c.requires.roomy c.requires.guarded (sym c.requires.roomy.whole)
-    c.loop-k.cells c.loop-k.auto.cells c.loop-k.k it (slice_get-get_or c.as_slice-queues.result.now c.loop-k.k (record { prim = 0; input = 0; out = 0 }) c.loop-k-test.true) c.loop-k.invariant
+    c.loop-k.cells c.loop-k.auto.cells c.loop-k.k it (slice_get-get_or c.as_slice-queues.result.now c.loop-k.k (record { prim = 0; input = 0; out = 0 }) c.loop-k-test.true) c.loop-k.invariant.gone
 
 pub offset_bounds-cells-queue : goal.offset_bounds-cells-queue
 offset_bounds-cells-queue g c = let within = bounds-cells-queue g c in search rules
 
-pub advance_queue_cell-requires : goal.advance_queue_cell-requires
-advance_queue_cell-requires g c =
+pub moved_in-leaves-requires : goal.moved_in-leaves-requires
+moved_in-leaves-requires g c =
     let ms : List Component = c.args.evaluator.now.net.prims in
     let kinds : AreKindsTo ms (length ms) c.as_slice-queues.result.now c.as_slice-others.result.now = rw (c.as_slice-queues.ensures, c.as_slice-others.ensures) c.kinds-kinds.ensures in
     let it : QueuePlace = get_or c.as_slice-queues.result.now c.loop-k.k (record { prim = 0; input = 0; out = 0 }) in
-    queue_can_by g.C.HasCell.cell ms c.args.cells.now (signals_of c.args.wires.now) c.as_slice-queues.result.now c.as_slice-others.result.now (length ms) kinds c.requires.roomy c.requires.guarded (sym c.requires.roomy.whole)
-    c.loop-k.cells c.loop-k.auto.cells c.loop-k.k it (slice_get-get_or c.as_slice-queues.result.now c.loop-k.k (record { prim = 0; input = 0; out = 0 }) c.loop-k-test.true) c.loop-k.invariant c.index-cells-queue.result
+    (queue_placed ms (length ms) c.as_slice-queues.result.now c.as_slice-others.result.now kinds _ c.requires.placed c.loop-k.k it (slice_get-get_or c.as_slice-queues.result.now c.loop-k.k (record { prim = 0; input = 0; out = 0 }) c.loop-k-test.true)).1
+
+pub moved_in-comes-requires : goal.moved_in-comes-requires
+moved_in-comes-requires g c =
+    let ms : List Component = c.args.evaluator.now.net.prims in
+    let kinds : AreKindsTo ms (length ms) c.as_slice-queues.result.now c.as_slice-others.result.now = rw (c.as_slice-queues.ensures, c.as_slice-others.ensures) c.kinds-kinds.ensures in
+    let it : QueuePlace = get_or c.as_slice-queues.result.now c.loop-k.k (record { prim = 0; input = 0; out = 0 }) in
+    (queue_placed ms (length ms) c.as_slice-queues.result.now c.as_slice-others.result.now kinds _ c.requires.placed c.loop-k.k it (slice_get-get_or c.as_slice-queues.result.now c.loop-k.k (record { prim = 0; input = 0; out = 0 }) c.loop-k-test.true)).0
+
+pub pass_any-any-requires : goal.pass_any-any-requires
+pass_any-any-requires g c =
+    let ms : List Component = c.args.evaluator.now.net.prims in
+    let kinds : AreKindsTo ms (length ms) c.as_slice-queues.result.now c.as_slice-others.result.now = rw (c.as_slice-queues.ensures, c.as_slice-others.ensures) c.kinds-kinds.ensures in
+    let it : QueuePlace = get_or c.as_slice-queues.result.now c.loop-k.k (record { prim = 0; input = 0; out = 0 }) in
+    let can = queue_can_by g.C.HasCell.cell ms c.args.cells.now (signals_of c.args.wires.now) c.as_slice-queues.result.now c.as_slice-others.result.now (length ms) kinds c.requires.roomy c.requires.guarded (sym c.requires.roomy.whole)
+    c.loop-k.cells c.loop-k.auto.cells c.loop-k.k it (slice_get-get_or c.as_slice-queues.result.now c.loop-k.k (record { prim = 0; input = 0; out = 0 }) c.loop-k-test.true) c.loop-k.invariant.gone c.index-cells-queue.result in
+    pass_has_room it.input it.out can.0 _ (signals_of c.args.wires.now) _ c.moved_in-comes.ensures can.1
+
+pub bounds-changed-queue : goal.bounds-changed-queue
+bounds-changed-queue g c =
+    let ms : List Component = c.args.evaluator.now.net.prims in
+    let kinds : AreKindsTo ms (length ms) c.as_slice-queues.result.now c.as_slice-others.result.now = rw (c.as_slice-queues.ensures, c.as_slice-others.ensures) c.kinds-kinds.ensures in
+    let it : QueuePlace = get_or c.as_slice-queues.result.now c.loop-k.k (record { prim = 0; input = 0; out = 0 }) in
+    let h = (kinds.queue_at c.loop-k.k it (slice_get-get_or c.as_slice-queues.result.now c.loop-k.k (record { prim = 0; input = 0; out = 0 }) c.loop-k-test.true)).1 in
+    omega (arith, h, c.loop-k.auto.changed, c.requires.changed)
 
 pub loop-k-preserved : goal.loop-k-preserved
 loop-k-preserved g c =
     let ms : List Component = c.args.evaluator.now.net.prims in
     let kinds : AreKindsTo ms (length ms) c.as_slice-queues.result.now c.as_slice-others.result.now = rw (c.as_slice-queues.ensures, c.as_slice-others.ensures) c.kinds-kinds.ensures in
     let it : QueuePlace = get_or c.as_slice-queues.result.now c.loop-k.k (record { prim = 0; input = 0; out = 0 }) in
-    queue_gone_by g.C.HasCell.cell ms c.args.cells.now (signals_of c.args.wires.now) c.as_slice-queues.result.now c.as_slice-others.result.now (length ms) kinds c.requires.roomy c.requires.guarded (sym c.requires.roomy.whole)
-    c.loop-k.cells c.loop-k.auto.cells c.loop-k.k it (slice_get-get_or c.as_slice-queues.result.now c.loop-k.k (record { prim = 0; input = 0; out = 0 }) c.loop-k-test.true) c.loop-k.invariant c.index-cells-queue.result c.advance_queue_cell.new.cell c.advance_queue_cell.ensures
+    let at = slice_get-get_or c.as_slice-queues.result.now c.loop-k.k (record { prim = 0; input = 0; out = 0 }) c.loop-k-test.true in
+    record {
+      gone = queue_gone_by g.C.HasCell.cell ms c.args.cells.now (signals_of c.args.wires.now) c.as_slice-queues.result.now c.as_slice-others.result.now (length ms) kinds c.requires.roomy c.requires.guarded (sym c.requires.roomy.whole)
+          c.loop-k.cells c.loop-k.auto.cells c.loop-k.k it at c.loop-k.invariant.gone c.index-cells-queue.result c.pass_any-any.new.cell
+          (λ capacity initial can. pass_went it.input it.out capacity initial _ _ (signals_of c.args.wires.now) _ _ c.moved_in-leaves.ensures c.moved_in-comes.ensures c.pass_any-any.ensures.passed can);
+      noted = noted_more ms (length ms) c.as_slice-queues.result.now c.as_slice-others.result.now kinds (signals_of c.args.wires.now) c.loop-k.changed c.loop-k.k it c.pass_any-any.result at
+          (λ none. let still = c.pass_any-any.ensures.told none in (rw c.moved_in-leaves.ensures at still.0, rw c.moved_in-comes.ensures at still.1)) c.loop-k.invariant.noted;
+    }
 
 pub loop-i-init : goal.loop-i-init
 loop-i-init g c =
     let ms : List Component = c.args.evaluator.now.net.prims in
     let kinds : AreKindsTo ms (length ms) c.as_slice-queues.result.now c.as_slice-others.result.now = rw (c.as_slice-queues.ensures, c.as_slice-others.ensures) c.kinds-kinds.ensures in
-    (c.as_slice-queues.result.now, (kinds, both_from_queues ms (map g.C.HasCell.cell c.args.cells.now) (map g.C.HasCell.cell c.loop-k.cells) (signals_of c.args.wires.now) c.as_slice-queues.result.now c.as_slice-others.result.now c.loop-k.k (let end = c.loop-k.auto.k-end in omega (arith, c.loop-k-test.false)) c.loop-k.invariant))
+    (c.as_slice-queues.result.now, (kinds, both_from_queues ms (map g.C.HasCell.cell c.args.cells.now) (map g.C.HasCell.cell c.loop-k.cells) (signals_of c.args.wires.now) c.as_slice-queues.result.now c.as_slice-others.result.now c.loop-k.k (let end = c.loop-k.auto.k-end in omega (arith, c.loop-k-test.false)) c.loop-k.invariant.gone))
 
 pub bounds-cells-other : goal.bounds-cells-other
 bounds-cells-other g c =
@@ -72,8 +102,14 @@ loop-i-preserved g c =
       ),
     )
 
-pub returns : goal.returns
-returns g c =
+pub returns-clause-kept : goal.returns-clause-kept
+returns-clause-kept g c =
     let ms : List Component = c.args.evaluator.now.net.prims in
     all_gone ms (map g.C.HasCell.cell c.args.cells.now) (signals_of c.args.wires.now) c.loop-i.invariant.0 c.as_slice-others.result.now (length ms) c.loop-i.invariant.1.0 c.requires.roomy c.requires.guarded (sym c.requires.roomy.whole)
     (map g.C.HasCell.cell c.loop-i.cells) c.loop-i.i (same_length g.C.HasCell.cell c.loop-i.cells c.args.cells.now (c.loop-i.auto.cells ∙ c.loop-k.auto.cells)) c.loop-i-test.false refl c.loop-i.invariant.1.1
+
+pub returns-clause-noted : goal.returns-clause-noted
+returns-clause-noted g c =
+    let ms : List Component = c.args.evaluator.now.net.prims in
+    let kinds : AreKindsTo ms (length ms) c.as_slice-queues.result.now c.as_slice-others.result.now = rw (c.as_slice-queues.ensures, c.as_slice-others.ensures) c.kinds-kinds.ensures in
+    all_noted ms (length ms) c.as_slice-queues.result.now c.as_slice-others.result.now kinds refl (signals_of c.args.wires.now) c.loop-k.changed c.loop-k.k c.loop-k-test.false c.loop-k.invariant.noted

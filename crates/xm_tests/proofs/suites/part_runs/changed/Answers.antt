@@ -29,7 +29,7 @@ pub apply-requires-clause-rooms : goal.apply-requires-clause-rooms
 apply-requires-clause-rooms c =
     let net = c.args.design.now.net in let label = label_at c.args.parts.now.labels in let new = row_of c.args.newer.now in
     let is : IsChange (row_of c.in_ok-made.made) new c.change.new.out = subst (λ (r : Row). IsChange r new c.change.new.out) (sym c.in_ok-made.ensures.row) c.change.ensures.change in
-    c.room_law.ensures net label c.args.p c.in_ok-made.made new c.change.new.out (c.in_ok-made.ensures.roomy label c.args.p c.requires.roomy) is c.requires.within
+    c.room_law.ensures net label c.args.p c.in_ok-made.made new c.change.new.out (c.in_ok-made.ensures.roomy label c.args.p c.requires.roomy) is c.requires.newer.1
 
 pub returns-clause-row : goal.returns-clause-row
 returns-clause-row c =
@@ -40,4 +40,4 @@ pub returns-clause-roomy : goal.returns-clause-roomy
 returns-clause-roomy c =
     let net = c.args.design.now.net in let label = label_at c.args.parts.now.labels in let new = row_of c.args.newer.now in
     let is : IsChange (row_of c.in_ok-made.made) new c.change.new.out = subst (λ (r : Row). IsChange r new c.change.new.out) (sym c.in_ok-made.ensures.row) c.change.ensures.change in
-    c.apply.ensures.roomy net label c.args.p new (c.in_ok-made.ensures.roomy label c.args.p c.requires.roomy) is c.requires.within
+    c.apply.ensures.roomy net label c.args.p new (c.in_ok-made.ensures.roomy label c.args.p c.requires.roomy) is c.requires.newer.1

@@ -7,20 +7,14 @@ use Rattle.xm_parts.specs.Projection.{Row, projection}
 use Rattle.xm_parts.specs.Rows.{row_of}
 use Rattle.xm_tests.proofs.suites.part_runs.row_on.Goals as goal
 
-pub changed-requires-clause-can : goal.changed-requires-clause-can
-changed-requires-clause-can c =
+pub changed-requires-clause-newer : goal.changed-requires-clause-newer
+changed-requires-clause-newer c =
     let it = c.args.design.now in let net = it.net in let label = label_at c.args.parts.now.labels in
     let at = c.requires.cycle.0 in let later = next net at.state at.frame in
     let made = (c.one_frame.ensures net it.order later (choice_at net.prims c.args.choices.now) c.is_designed.ensures.net c.is_designed.ensures.order).0 in
     let is : row_of c.part_step.new.out ≡ projection net label c.args.p later made.0 = c.part_step.ensures.step at made.0 made.1 in
-    subst (λ (r : Row). CanChange (row_of c.args.row.now) r) (sym is)
-    (subst (λ (r : Row). CanChange r (projection net label c.args.p later made.0)) (sym at.row_is) (c.change_law.ensures net label c.args.p at.state at.frame made.0 c.requires.cycle.1))
-
-pub changed-requires-clause-within : goal.changed-requires-clause-within
-changed-requires-clause-within c =
-    let it = c.args.design.now in let net = it.net in let label = label_at c.args.parts.now.labels in
-    let at = c.requires.cycle.0 in let later = next net at.state at.frame in
-    let made = (c.one_frame.ensures net it.order later (choice_at net.prims c.args.choices.now) c.is_designed.ensures.net c.is_designed.ensures.order).0 in
-    let is : row_of c.part_step.new.out ≡ projection net label c.args.p later made.0 = c.part_step.ensures.step at made.0 made.1 in
-    let fitting = c.fits_next.ensures net it.order at.state at.choices at.frame c.is_designed.ensures.net c.is_designed.ensures.order c.requires.cycle.1 c.requires.cycle.2 at.is_frame in
-    subst (λ (r : Row). IsWithinCapacities net r) (sym is) (c.capacity_law.ensures net label c.args.p later made.0 fitting)
+    let fitting = c.fits_next.ensures net it.order at.state at.choices at.frame c.is_designed.ensures.net c.is_designed.ensures.order c.requires.cycle.1 c.requires.cycle.2 at.is_frame in (
+      subst (λ (r : Row). CanChange (row_of c.args.row.now) r) (sym is)
+          (subst (λ (r : Row). CanChange r (projection net label c.args.p later made.0)) (sym at.row_is) (c.change_law.ensures net label c.args.p at.state at.frame made.0 c.requires.cycle.1)),
+      subst (λ (r : Row). IsWithinCapacities net r) (sym is) (c.capacity_law.ensures net label c.args.p later made.0 fitting),
+    )

@@ -6,7 +6,7 @@ use Rattle.xm_parts.specs.Kept.{label_at}
 use Rattle.xm_parts.specs.Projection.{projection}
 use Rattle.xm_parts.specs.Rows.{IsRoomyRow, row_of}
 use Rattle.xm_parts.specs.declared.row.PartRow.{PartRow}
-use Rattle.xm_tests.proofs.Stepped.{push_each}
+use Rattle.xm_tests.proofs.Stepped.{cycle_of, push_each}
 use Rattle.xm_tests.proofs.suites.part_runs.rows_on.Goals as goal
 
 pub row_on-requires-clause-cycle : goal.row_on-requires-clause-cycle
@@ -14,14 +14,7 @@ row_on-requires-clause-cycle c =
     let h = c.requires.rows in
     let below : c.loop-p.p < length c.args.rows.now = (let t = c.loop-p-test.true in let v = c.count-count.ensures.value in let w = h.of.whole in omega arith) in
     let at = slice_get_read c.args.rows.now (length c.args.rows.now) c.loop-p.p c.index-rows-p.result refl below c.index-rows-p.is in (
-      record {
-        state = h.state;
-        choices = h.choices;
-        frame = h.frame;
-        is_frame = h.is_frame;
-        row_is = h.of.are c.loop-p.p c.index-rows-p.result at;
-        far_is = c.in_ok-moves.ensures h.state h.frame h.of;
-      },
+      cycle_of h c.loop-p.p c.index-rows-p.result c.in_ok-moves.moves at (c.in_ok-moves.ensures h.state h.frame h.of),
       h.fitting,
       h.fit,
     )
@@ -40,14 +33,7 @@ loop-p-preserved c =
     record {
       whole = rw c.in_ok-push.ensures.ok (simp length-append (let w = c.loop-p.invariant.whole in omega arith));
       are = rw c.in_ok-push.ensures.ok (λ h φ is. push_each (λ (k : ℕ) (row : PartRow). row_of row ≡ projection net label k (next net h.state h.frame) φ) c.loop-p.made.items c.in_ok-row.row c.loop-p.p c.loop-p.invariant.whole (c.loop-p.invariant.are h φ is)
-          (c.in_ok-row.ensures.step (record {
-            state = h.state;
-            choices = h.choices;
-            frame = h.frame;
-            is_frame = h.is_frame;
-            row_is = h.of.are c.loop-p.p c.index-rows-p.result at;
-            far_is = c.in_ok-moves.ensures h.state h.frame h.of;
-          }) φ is));
+          (c.in_ok-row.ensures.step (cycle_of h c.loop-p.p c.index-rows-p.result c.in_ok-moves.moves at (c.in_ok-moves.ensures h.state h.frame h.of)) φ is));
       roomy = rw c.in_ok-push.ensures.ok (push_each (λ (k : ℕ) (row : PartRow). IsRoomyRow net label k row) c.loop-p.made.items c.in_ok-row.row c.loop-p.p c.loop-p.invariant.whole c.loop-p.invariant.roomy c.in_ok-row.ensures.roomy);
     }
 

@@ -1,4 +1,6 @@
-use Rattle.std.proofs.Common.{subst, ◌≡◌, ◌<◌, ◌+◌, ◌-◌, ◌∙◌, ◌++◌, ◌^◌, ℕ, List, ap, append_assoc, arith, sym}
+use Rattle.std.proofs.Common.{subst, ◌≡◌, ◌<◌, ◌+◌, ◌-◌, ◌∙◌, ◌++◌, ◌^◌, ℕ, List, ap, append_assoc, append-nil, arith, refl, sym}
+use Rattle.xm_design.specs.Designed.{Designed}
+use Rattle.xm_step.specs.InStep.{IsInStep}
 use Rattle.xm_tape.specs.Taped.{Taped, chosen, cycles_of, rows_of}
 use Rattle.xm_trace.proofs.Cycles.{rounds_join}
 use Rattle.xm_trace.proofs.RoundAdded.{few_had}
@@ -7,6 +9,25 @@ use Rattle.xm_trace.specs.Rounds.{IsUnderway}
 use Rattle.xm_trace.specs.Runs.{IsRunOf}
 use Rattle.xm_trace.specs.Text.{round_lines}
 use Rattle.xm_trace.proofs.run_text.RunText.run.Goals as goal
+
+pub loop-texts-init : goal.loop-texts-init
+loop-texts-init c =
+    let n = c.args.self.now.cycles in
+    record {
+      here = c.requires.here;
+      tape = refl;
+      row = c.requires.row;
+      later = omega arith;
+      within = c.requires.order;
+      channels = refl;
+      colours = refl;
+      in_step = subst (λ (design : Designed). IsInStep design.net c.args.running.now.slots.items c.in_ok-frame.frame) c.design-design.ensures.value (c.in_ok-frame.ensures c.args.running.now.slots.items);
+      rooms = λ p m there. refl;
+      room = refl;
+      lines = λ names s φ are run.
+          let none : 0 ≡ n - n = omega arith in
+          sym (append-nil c.args.lines.now.items) ∙ ap (λ (i : ℕ). c.args.lines.now.items ++ round_lines names φ n i) none;
+    }
 
 pub run_cycle-requires-clause-few : goal.run_cycle-requires-clause-few
 run_cycle-requires-clause-few c k d below within =
@@ -38,7 +59,7 @@ loop-texts-preserved c =
       within = omega (arith, before.within, after.cycles, c.loop-texts-test.true, c.cycles.ensures);
       channels = after.channels ∙ before.channels;
       colours = after.colours ∙ before.colours;
-      wires = after.wires;
+      in_step = after.in_step;
       rooms = λ p m there. after.rooms p m there ∙ before.rooms p m there;
       room = after.room ∙ before.room;
       lines = λ names s φ are run.

@@ -1,7 +1,8 @@
-use Rattle.std.proofs.Common.{◌≡◌, ◌≤◌, ◌-◌, ◌++◌, ℕ, length}
+use Rattle.std.proofs.Common.{◌≡◌, ◌≤◌, ◌-◌, ◌++◌, ℕ}
 use Rattle.xm_model.specs.Component.{Content}
 use Rattle.xm_model.specs.Naming.{Naming}
 use Rattle.xm_model.specs.Signals.{Signals}
+use Rattle.xm_step.specs.InStep.{IsInStep}
 use Rattle.xm_step.specs.Roomy.{SameRooms}
 use Rattle.xm_trace.specs.Labels.{AreLabelsOf}
 use Rattle.xm_trace.specs.Rounds.{IsUnderway}
@@ -22,7 +23,7 @@ invariant-loop-texts l = record {
   within : l.self.cycles ≤ l.to;
   channels : l.self.channels ≡ l.initial.self.channels;
   colours : l.self.colours ≡ l.initial.self.colours;
-  wires : length l.frame.wires.items ≡ l.evaluator.net.channels;
+  in_step : IsInStep l.evaluator.net l.running.slots.items l.frame;
   rooms : SameRooms l.evaluator.net.prims l.initial.running.slots.items l.running.slots.items;
   room : l.running.slots.room ≡ l.initial.running.slots.room;
   lines : (names : Naming) (s : ℕ → ℕ → Content) (φ : ℕ → Signals) → AreLabelsOf names l.labels → IsRunOf l.evaluator.net l.initial.rows.tape s φ

@@ -27,7 +27,7 @@ returns-clause-here c =
     let place : c.args.rows.now.cycle ≡ t = c.requires.row ∙ sym same in
     let is_row : c.row.result.now ≡ slice_index_or (rows_of c.args.rows.now.tape) t [] = c.row.ensures ∙ ap (λ (i : ℕ). slice_index_or (rows_of c.args.rows.now.tape) i []) place in
     let below : t < cycles_of c.args.rows.now.tape = omega (arith, same, c.requires.within) in
-    let wires = c.step_running.new.frame.wires.items in
+    let wires = c.step_running.new.frame.frame.wires.items in
     let lent = c.as_slice.result.now in
     let whole : length lent ≡ net.channels = ap length c.as_slice.ensures ∙ c.step_running.ensures.frame.whole in
     let many : c.self.inside.channels ≡ length lent = channels ∙ c.requires.here.channels ∙ sym whole in
@@ -57,7 +57,7 @@ returns-clause-lines c names s φ are run =
     let place : c.args.rows.now.cycle ≡ t = c.requires.row ∙ sym same in
     let is_row : c.row.result.now ≡ slice_index_or (rows_of c.args.rows.now.tape) t [] = c.row.ensures ∙ ap (λ (i : ℕ). slice_index_or (rows_of c.args.rows.now.tape) i []) place in
     let below : t < cycles_of c.args.rows.now.tape = omega (arith, same, c.requires.within) in
-    let wires = c.step_running.new.frame.wires.items in
+    let wires = c.step_running.new.frame.frame.wires.items in
     let moved = moved_same net is_net c.args.rows.now.tape t below s φ run c.args.running.now.slots.items c.row.result.now wires (λ p. c.requires.here.cells s φ run p ∙ ap (λ (i : ℕ). s i p) (sym same)) is_row c.step_running.ensures.only c.step_running.ensures.frame.whole in
     line_made names (labelled_of c.args.texts.now) are φ now.cycles t net.channels _ c.args.lines.now.items c.put_line.new.self.items (c.requires.labels ∙ c.requires.here.channels) same
     (ap (λ (xs : List Wire). cycle_moves (signals_of xs) t (length xs)) c.as_slice.ensures ∙ moved ∙ ap (λ (i : ℕ). cycle_moves (φ i) i net.channels) same)

@@ -1,0 +1,35 @@
+-- The run that a board names, and the rows of its parts.
+use Rattle.std.specs.Prelude.{ℕ, List}
+use Rattle.xm_board.specs.Core.{Core}
+use Rattle.xm_model.specs.Component.{Content}
+use Rattle.xm_model.specs.Net.{Network}
+use Rattle.xm_model.specs.Signals.{Signals}
+use Rattle.xm_parts.specs.Kept.{label_at}
+use Rattle.xm_parts.specs.Projection.{Row, projection}
+use Rattle.xm_tape.specs.Taped.{Taped}
+use Rattle.xm_trace.specs.Runs.{IsRunOf}
+
+-- a net, the choices of a tape, and the label of each channel's part
+pub record RunName : Type 0 where
+  pub net : Network
+  pub tape : Taped
+  pub labels : List ℕ
+
+-- a part, and the cycle of the run that it leaves
+pub record JobName : Type 0 where
+  pub run : RunName
+  pub part : ℕ
+  pub cycle : ℕ
+
+-- a run, and how far each part of it is
+pub record Boarded : Type 0 where
+  pub run : RunName
+  pub core : Core
+
+-- the states and the frames are those of the run
+abbrev pub IsNamed : RunName → (ℕ → ℕ → Content) → (ℕ → Signals) → Type 0
+IsNamed run s φ = IsRunOf run.net run.tape s φ
+
+-- what part p has of cycle t
+abbrev pub row_at : RunName → (ℕ → ℕ → Content) → (ℕ → Signals) → ℕ → ℕ → Row
+row_at run s φ p t = projection run.net (label_at run.labels) p (s t) (φ t)
