@@ -19,6 +19,7 @@ use Rattle.xm_options.proofs.Given.{are_undashed}
 use Rattle.xm_options.proofs.Law.{is_taken, takes_given}
 use Rattle.xm_options.proofs.Uses.{first_in_rows}
 use Rattle.xm_options.proofs.Words.{is_undashed}
+use Rattle.xm_options.specs.Names.{name_of}
 
 -- ---- an answer comes of names with texts that fit
 
@@ -74,10 +75,10 @@ fits_decimal : (texts : Text → Option Text) (options : List LongOption) (name 
 fits_decimal texts [] name text known fitting is = cc
 fits_decimal texts (o ∷ os) name text known fitting is =
     let fit = and_parts (is_fitting texts o) (list_all (is_fitting texts) os) fitting in
-    elim (cases_Bool (bytes_eq o.name.now name)) [
+    elim (cases_Bool (bytes_eq (name_of o.name) name)) [
       | inl same ↦
-          let there : texts o.name.now ≡ Some text = ap texts ((bytes_eq-Decides o.name.now name).0 same) ∙ is in
-          decimal_from o text (ap (λ (x : Option Text). option_map_or (λ t. is_some (number_in o t)) x true) (sym there) ∙ fit.0)
+          let there : texts (name_of o.name) ≡ Some text = ap texts ((bytes_eq-Decides (name_of o.name) name).0 same) ∙ is in
+          decimal_from o text (ap (λ (x : Option Text). option_map_or (λ t. is_some (number_in o t)) x (not o.wanted)) (sym there) ∙ fit.0)
       | inr other ↦ fits_decimal texts os name text (rw other at known) fit.1 is
     ]
 

@@ -17,20 +17,21 @@ use Rattle.xm_options.proofs.Taken.{Passes, both_none, taken}
 use Rattle.xm_options.specs.Inner.Words.{is_dashes}
 use Rattle.xm_options.proofs.Turns.{standing}
 use Rattle.xm_options.proofs.Uses.{rows_of}
+use Rattle.xm_options.specs.Names.{name_of}
 
 -- ---- nothing else fails, and nothing else is kept
 
 no_defaults : (rows : List Row) (options : List LongOption) → defaults_fault rows (rules_of options) ≡ []
 unfolding defaults_fault
 no_defaults rows [] = refl
-no_defaults rows (o ∷ os) = elim (cases_Bool (has_row o.name.now rows)) [ inl has ↦ rw has (no_defaults rows os) | inr has ↦ rw has (no_defaults rows os) ]
+no_defaults rows (o ∷ os) = elim (cases_Bool (has_row (name_of o.name) rows)) [ inl has ↦ rw has (no_defaults rows os) | inr has ↦ rw has (no_defaults rows os) ]
 
 none_kept : (rows : List Row) (name : Text) → with_default rows (built_rule name) ≡ rows
 none_kept rows name = elim (cases_Bool (has_row name rows)) [ inl has ↦ rw has refl | inr has ↦ rw has refl ]
 
 kept : (rows : List Row) (options : List LongOption) → fold with_default rows (rules_of options) ≡ rows
 kept rows [] = refl
-kept rows (o ∷ os) = ap (λ after. fold with_default after (rules_of os)) (none_kept rows o.name.now) ∙ kept rows os
+kept rows (o ∷ os) = ap (λ after. fold with_default after (rules_of os)) (none_kept rows (name_of o.name)) ∙ kept rows os
 
 none_required : (rows : List Row) (options : List LongOption) → list_any (λ (a : Rule). a.required && not (is_given a.id rows)) (rules_of options) ≡ false
 none_required rows [] = refl

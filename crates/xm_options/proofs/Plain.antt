@@ -12,12 +12,15 @@ use Rattle.std.proofs.lemmas.Str.{IsUtf8-from_ascii, IsUtf8-from_is_utf8, is_utf
 use Rattle.clap.specs.Walk.{Text}
 use Rattle.xm_model.specs.ListView.{ListView}
 use Rattle.xm_model.specs.Naming.{texts_of}
-use Rattle.xm_options.specs.Grammar.{Given, are_known, are_named, behind_dashes, given_from, is_decimal, is_equals, is_known, is_name, options_in, starts_as_number}
+use Rattle.xm_options.specs.Grammar.{Given, are_known, behind_dashes, given_from, is_decimal, is_equals, is_known, options_in, starts_as_number}
 use Rattle.xm_options.specs.Inner.Words.{is_dashes, is_plain}
 use Rattle.xm_options.specs.declared.option.LongOption.{LongOption}
 use Rattle.xm_options.proofs.Answer.{answered, are_decimal, decimal, some_from, undashed_from}
 use Rattle.xm_options.proofs.Given.{parts, waiting_known}
 use Rattle.xm_options.proofs.Words.{given_behind, undashed}
+use Rattle.xm_options.specs.Names.{name_of}
+use Rattle.xm_options.specs.declared.option.OptionName.{OptionName}
+use Rattle.xm_options.specs.declared.option.OptionName.TheVariants.{Budget, Parts, Seed, Size, Watch, Workers}
 
 pub plain_text : (word : Text) → IsUtf8 word → is_dashes word ≡ false → is_plain word ≡ true
 plain_text word utf8 whole = rw (is_utf8-from_IsUtf8 word utf8, whole) refl
@@ -61,16 +64,21 @@ decimal_ascii text h = all_weaker is_ascii_digit (λ x. nat_lt x 128) digit_asci
 decimal_whole : (text : Text) → is_decimal text ≡ true → is_dashes text ≡ false
 decimal_whole text h = (undashed text (undashed_from text h)).0
 
-name_ascii : (options : List LongOption) (name : Text) → are_named options ≡ true → is_known options name ≡ true → is_ascii name ≡ true
-name_ascii [] name named known = cc
-name_ascii (o ∷ os) name named known =
-    let named_parts = and_parts (is_name o.name.now) (are_named os) named in
-    elim (cases_Bool (bytes_eq o.name.now name)) [
-      | inl same ↦
-          let letters = (and_parts (list_all is_ascii_lowercase o.name.now) (nat_lt 0 (length o.name.now)) named_parts.0).0 in
-          ap is_ascii (sym ((bytes_eq-Decides o.name.now name).0 same)) ∙ all_weaker is_ascii_lowercase (λ x. nat_lt x 128) letter_ascii o.name.now letters
-      | inr other ↦ name_ascii os name named_parts.1 (rw other at known)
-    ]
+-- a name of an option is a text
+each_ascii : (name : OptionName) → is_ascii (name_of name) ≡ true
+each_ascii Budget = refl
+each_ascii Parts = refl
+each_ascii Seed = refl
+each_ascii Size = refl
+each_ascii Watch = refl
+each_ascii Workers = refl
+
+name_ascii : (options : List LongOption) (name : Text) → is_known options name ≡ true → is_ascii name ≡ true
+name_ascii [] name known = cc
+name_ascii (o ∷ os) name known = elim (cases_Bool (bytes_eq (name_of o.name) name)) [
+  | inl same ↦ ap is_ascii (sym ((bytes_eq-Decides (name_of o.name) name).0 same)) ∙ each_ascii o.name
+  | inr other ↦ name_ascii os name (rw other at known)
+]
 
 -- ---- a word in parts
 
@@ -109,7 +117,7 @@ joined p (x ∷ xs) equals before after = elim (cases_Bool (is_equals x)) [
 
 -- ---- the words
 
-module _ (options : List LongOption) (named : are_named options ≡ true) where
+module _ (options : List LongOption) where
   -- the claim
   abbrev ArePlain : List Text → Type 0
   ArePlain words = (waiting : Option Text) (given : List Given) → given_from waiting words ≡ Some given → are_known options given ≡ true → are_decimal given ≡ true
@@ -127,11 +135,11 @@ module _ (options : List LongOption) (named : are_named options ≡ true) where
         let p = parts name text (given_from None rest) given (rw has at is) in
         let known_parts = and_parts (is_known options name) (are_known options p.rest) (ap (are_known options) (sym p.given_is) ∙ known) in
         let number_parts = and_parts (is_decimal text) (are_decimal p.rest) (ap are_decimal (sym p.given_is) ∙ numbers) in
-        let ascii = joined (λ byte. nat_lt byte 128) behind refl (name_ascii options name named known_parts.0) (decimal_ascii text number_parts.0) in
+        let ascii = joined (λ byte. nat_lt byte 128) behind refl (name_ascii options name known_parts.0) (decimal_ascii text number_parts.0) in
         and_from (is_plain word) (list_all is_plain rest) (plain_name word behind e ascii) (more None p.rest p.from_is known_parts.1 number_parts.1)
     | inr none ↦
         let waits : given_from (Some behind) rest ≡ Some given = rw none at is in
-        let ascii = name_ascii options behind named (waiting_known options given behind rest waits known) in
+        let ascii = name_ascii options behind (waiting_known options given behind rest waits known) in
         and_from (is_plain word) (list_all is_plain rest) (plain_name word behind e ascii) (more (Some behind) given waits known numbers)
   ]
 

@@ -10,13 +10,14 @@ use Rattle.clap.specs.Walk.{Rule, arg_by_id, arg_by_index, arg_by_long, arg_by_s
 use Rattle.xm_options.specs.Inner.Command.{command_with, rule_for}
 use Rattle.xm_options.specs.Grammar.{is_known}
 use Rattle.xm_options.specs.declared.option.LongOption.{LongOption}
+use Rattle.xm_options.specs.Names.{name_of}
 
 -- the rule of an option, as clap builds it
 abbrev pub built_rule : List ℕ → Rule
 built_rule name = filled (rule_for name)
 
 abbrev pub rules_of : List LongOption → List Rule
-rules_of options = map (λ (option : LongOption). built_rule option.name.now) options
+rules_of options = map (λ (option : LongOption). built_rule (name_of option.name)) options
 
 -- the built command
 abbrev pub shape_of : List LongOption → Shape
@@ -31,7 +32,7 @@ shape_of options = record (new_shape (codes "options")) {
 
 filled_all : (i : ℕ) (options : List LongOption) → filled_from i (command_with options).top.rules ≡ rules_of options
 filled_all i [] = refl
-filled_all i (o ∷ os) = ap (λ rules. built_rule o.name.now ∷ rules) (filled_all i os)
+filled_all i (o ∷ os) = ap (λ rules. built_rule (name_of o.name) ∷ rules) (filled_all i os)
 
 abbrev with_rules : List Rule → App
 with_rules rules = record { top = record (shape_of []) { rules = rules }; subs = [] }
@@ -77,14 +78,14 @@ or_false false = refl
 pub found_by_long : (options : List LongOption) (name : List ℕ) → arg_by_long (rules_of options) name ≡ when_known (is_known options name) name
 found_by_long [] name = refl
 found_by_long (o ∷ os) name =
-    let same = bytes_eq-Decides o.name.now name in
-    rw (or_false (bytes_eq o.name.now name)) (pick (bytes_eq o.name.now name) _ o.name.now name same.0 _ (found_by_long os name))
+    let same = bytes_eq-Decides (name_of o.name) name in
+    rw (or_false (bytes_eq (name_of o.name) name)) (pick (bytes_eq (name_of o.name) name) _ (name_of o.name) name same.0 _ (found_by_long os name))
 
 pub found_by_id : (options : List LongOption) (name : List ℕ) → arg_by_id (rules_of options) name ≡ when_known (is_known options name) name
 found_by_id [] name = refl
 found_by_id (o ∷ os) name =
-    let same = bytes_eq-Decides o.name.now name in
-    pick (bytes_eq o.name.now name) _ o.name.now name same.0 _ (found_by_id os name)
+    let same = bytes_eq-Decides (name_of o.name) name in
+    pick (bytes_eq (name_of o.name) name) _ (name_of o.name) name same.0 _ (found_by_id os name)
 
 pub none_by_short : (options : List LongOption) (c : ℕ) → arg_by_short (rules_of options) c ≡ None
 none_by_short [] c = refl

@@ -12,6 +12,7 @@ use Rattle.xm_options.specs.declared.option.LongOption.{LongOption}
 use Rattle.xm_options.proofs.Answer.{answer_is, answered, some_from}
 use Rattle.xm_options.proofs.Given.{parts}
 use Rattle.xm_options.proofs.Words.{given_behind}
+use Rattle.xm_options.specs.Names.{name_of}
 
 -- the values are those of the texts that are given
 values_are : (options : List LongOption) (words : List Text) (values : List (Option ℕ)) (e : options_in options words ≡ Some values)
@@ -48,7 +49,7 @@ within options words (Some values) e = λ i option number at there.
     let is = values_are options words values.items (sym e) in
     let value : Some (value_of texts option) ≡ Some (Some number) =
     sym (slice_get-map (value_of texts) options i ∙ ap (option_map (value_of texts)) at) ∙ ap (λ xs. slice_get xs i) is ∙ there in
-    number_within option (texts option.name.now) number (same_Some _ _ value)
+    number_within option (texts (name_of option.name)) number (same_Some _ _ value)
 
 -- ---- no options
 

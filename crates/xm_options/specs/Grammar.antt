@@ -1,5 +1,5 @@
 -- The grammar of the words behind a command: options `--name value` or `--name=value` in any order, each at most
--- once, where a value is a decimal number in the option's range.
+-- once and those that are wanted once, where a value is a decimal number in the option's range.
 use Rattle.std.specs.Prelude.{◌≡◌, ℕ, ◌≤◌, slice_get, ◌==◌, ◌&&◌, ◌++◌, Bool, true, false, not, List, [], ◌∷◌, map, find, nat_le, nat_lt, length, if◌then◌else◌}
 use Rattle.std.specs.Prelude.{Option, Some, None, is_some, option_map, option_and_then}
 use Rattle.std.specs.Char.{is_ascii_digit, is_ascii_lowercase}
@@ -8,6 +8,7 @@ use Rattle.std.specs.Option.{option_map_or}
 use Rattle.std.specs.Str.{bytes_eq}
 use Rattle.std.specs.Str.Parse.{digits_value}
 use Rattle.xm_options.specs.declared.option.LongOption.{LongOption}
+use Rattle.xm_options.specs.Names.{name_of}
 
 -- ---- a value
 
@@ -62,7 +63,7 @@ given_from None (word ∷ rest) = option_and_then (λ option. if list_any is_equ
 
 -- the name is that of an option
 abbrev pub is_known : List LongOption → List ℕ → Bool
-is_known options name = list_any (λ option. bytes_eq option.name.now name) options
+is_known options name = list_any (λ option. bytes_eq (name_of option.name) name) options
 
 abbrev pub are_known : List LongOption → List Given → Bool
 are_known options given = list_all (λ g. is_known options g.0) given
@@ -81,12 +82,13 @@ are_new before (g ∷ rest) = not (is_among g.0 before) && are_new (before ++ g 
 abbrev pub text_in : List Given → List ℕ → Option (List ℕ)
 text_in given name = option_map (λ g. g.1) (find (λ g. bytes_eq g.0 name) given)
 
--- the text of the option, where it has one, is a number in its range
+-- the text of the option is a number in its range, and one that is not wanted may have no text
 abbrev pub is_fitting : (List ℕ → Option (List ℕ)) → LongOption → Bool
-is_fitting text_of option = option_map_or (λ text. is_some (number_in option text)) (text_of option.name.now) true
+is_fitting text_of option =
+    option_map_or (λ text. is_some (number_in option text)) (text_of (name_of option.name)) (not option.wanted)
 
 abbrev pub value_of : (List ℕ → Option (List ℕ)) → LongOption → Option ℕ
-value_of text_of option = option_and_then (number_in option) (text_of option.name.now)
+value_of text_of option = option_and_then (number_in option) (text_of (name_of option.name))
 
 -- the value of each option, where their texts fit
 abbrev pub values_of : (List ℕ → Option (List ℕ)) → List LongOption → Option (List (Option ℕ))
@@ -94,18 +96,12 @@ values_of text_of options =
     if list_all (is_fitting text_of) options then Some (map (value_of text_of) options) else None
 
 -- The value of each option, in the order of the options. There is an answer exactly where the words are names with
--- texts, each name is that of an option, none stands twice, and each text is a number in the range of its option.
+-- texts, each name is that of an option, none stands twice, each option that is wanted is there, and each text is a
+-- number in the range of its option.
 unfoldable pub options_in : List LongOption → List (List ℕ) → Option (List (Option ℕ))
 options_in options words = option_and_then
     (λ given. if are_known options given && are_new [] given then values_of (text_in given) options else None)
     (given_from None words)
-
--- a name that an option may have: letters a to z, at least one
-abbrev pub is_name : List ℕ → Bool
-is_name name = list_all is_ascii_lowercase name && nat_lt 0 (length name)
-
-abbrev pub are_named : List LongOption → Bool
-are_named options = list_all (λ option. is_name option.name.now) options
 
 -- each value lies in the range of its option
 abbrev pub AreWithin : List LongOption → List (Option ℕ) → Type 0

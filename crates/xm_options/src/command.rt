@@ -3,6 +3,7 @@
 ghost use Rattle.std.specs.Prelude.{◌≡◌, [], take, IfOk};
 ghost use Rattle.clap.specs.Simple.{app_of, with_rule};
 ghost use Rattle.xm_options.specs.Inner.Command.{command_with, rule_for};
+ghost use Rattle.xm_options.specs.Names.{name_of};
 
 use crate::option::LongOption;
 use clap::{Arg, ArgAction, Command};
@@ -23,10 +24,10 @@ fn with_option<'a>(
     option: &LongOption,
 ) -> Result<Command<'a>, AllocError>
     ensures { IfOk result (λ more. app_of more
-        ≡ with_rule (app_of command.entry) (rule_for option.now.name.now)) }
+        ≡ with_rule (app_of command.entry) (rule_for (name_of option.now.name))) }
 {
-    let option = Arg::new(alloc, option.name)
-        .long(option.name)
+    let option = Arg::new(alloc, option.name.text())
+        .long(option.name.text())
         .action(ArgAction::Set);
     command.arg(option)
 }

@@ -10,5 +10,5 @@ mod number;
 mod option;
 mod read;
 
-pub use option::LongOption;
+pub use option::{LongOption, OptionName};
 pub use read::{no_options, read_options};

@@ -1,10 +1,10 @@
 //! The values of the options that words give.
 
-ghost use Rattle.std.specs.Prelude.{◌≡◌, true, false, map, IfOk, IfSome, IsTrue, length, MatchOption, option_map};
+ghost use Rattle.std.specs.Prelude.{◌≡◌, true, false, map, IfOk, IfSome, length, MatchOption, option_map};
 ghost use Rattle.std.specs.List.{list_all, list_any};
 ghost use Rattle.clap.specs.Matches.{found_of, first_value};
 ghost use Rattle.xm_model.specs.Naming.{texts_of};
-ghost use Rattle.xm_options.specs.Grammar.{AreWithin, NoOptions, are_named, options_in, values_of as values_by};
+ghost use Rattle.xm_options.specs.Grammar.{AreWithin, NoOptions, options_in, values_of as values_by};
 ghost use Rattle.xm_options.specs.Inner.Words.{is_plain, is_dashes};
 
 use crate::command::command_of;
@@ -54,11 +54,12 @@ fn values_of(
 {
     let mut values = List::new(alloc);
     for option in options {
-        let value = match matches.get_str(option.name) {
+        let value = match matches.get_str(option.name.text()) {
             Some(text) => match number_in(option, text) {
                 Some(number) => Some(number),
                 None => return Ok(None),
             },
+            None if option.wanted => return Ok(None),
             None => None,
         };
         values.push(value)?;
@@ -94,7 +95,6 @@ pub fn read_options(
     options: &[LongOption],
     words: &[Text],
 ) -> Result<Option<List<Option<u64>>>, OutOfMemory>
-    requires { IsTrue (are_named options.now) }
     ensures exact { IfOk result (λ answer. option_map (λ values. values.items) answer
         ≡ options_in options.now (texts_of words.now)) }
     ensures each { IfOk result (λ answer. IfSome answer (λ values.

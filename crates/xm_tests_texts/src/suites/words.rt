@@ -3,29 +3,33 @@
 use super::helpers::words_in;
 use std::alloc::Global;
 use xm_model::{List, OutOfMemory, Text};
-use xm_options::{LongOption, no_options, read_options};
+use xm_options::{LongOption, OptionName, no_options, read_options};
 
 const BUDGET: [LongOption; 1] = [LongOption {
-    name: "budget",
+    name: OptionName::Budget,
     low: 1,
     high: 10_000_000,
+    wanted: false,
 }];
 
 const PARTS: [LongOption; 3] = [
     LongOption {
-        name: "parts",
+        name: OptionName::Parts,
         low: 1,
         high: 64,
+        wanted: true,
     },
     LongOption {
-        name: "workers",
+        name: OptionName::Workers,
         low: 1,
         high: 64,
+        wanted: true,
     },
     LongOption {
-        name: "watch",
+        name: OptionName::Watch,
         low: 0,
         high: 10_000,
+        wanted: false,
     },
 ];
 
@@ -129,16 +133,24 @@ fn other_words_are_refused(rt: HostRuntime) {
 }
 
 /// Words, and the values of the three options that they give.
-const TAKEN_BY_THREE: [(&str, [Option<u64>; 3]); 5] = [
+const TAKEN_BY_THREE: [(&str, [Option<u64>; 3]); 4] = [
     ("--parts 2 --workers=3", [Some(2), Some(3), None]),
     ("--workers=3 --parts 2", [Some(2), Some(3), None]),
-    ("--watch 0", [None, None, Some(0)]),
+    ("--watch 0 --parts 1 --workers 64", [Some(1), Some(64), Some(0)]),
     (
         "--watch=10000 --parts=64 --workers 1",
         [Some(64), Some(1), Some(10_000)],
     ),
-    ("", [None, None, None]),
 ];
+
+/// Words that the three options refuse, of which the first two are wanted.
+const REFUSED_BY_THREE: [&str; 4] = ["", "--parts 2", "--watch 1 --workers 2", "--parts 0 --workers 1"];
+
+fn all_are_refused_by_three(alloc: Global) -> bool {
+    REFUSED_BY_THREE
+        .iter()
+        .all(|line| is_refused(alloc, Grammar::Parts, line))
+}
 
 fn all_three_are_taken(alloc: Global) -> bool {
     TAKEN_BY_THREE
@@ -149,7 +161,7 @@ fn all_three_are_taken(alloc: Global) -> bool {
 #[test]
 fn options_come_in_any_order(rt: HostRuntime) {
     assert!(rt; all_three_are_taken(rt.alloc()));
-    assert!(rt; is_refused(rt.alloc(), Grammar::Parts, "--parts 0 --workers 1"));
+    assert!(rt; all_are_refused_by_three(rt.alloc()));
 }
 
 const NO_OPTIONS: [&str; 6] = ["x", "--", "help", "--help", "-h", "--budget 5"];

@@ -12,7 +12,7 @@ read_plain-requires c =
     ap (λ texts. list_any is_dashes (map (λ word. word.now) texts)) c.deref.ensures.value ∙ ap (list_any is_dashes) plain.1 ∙ no_dashes c.args.words.now plain.0
 
 pub returns-in-None-clause-exact : goal.returns-in-None-clause-exact
-returns-in-None-clause-exact c = let plain = rw c.in-None.is at c.in_ok-plain.ensures in not_plain_none c.args.options.now c.requires c.args.words.now plain
+returns-in-None-clause-exact c = let plain = rw c.in-None.is at c.in_ok-plain.ensures in not_plain_none c.args.options.now c.args.words.now plain
 
 pub returns-in-Some-clause-each : goal.returns-in-Some-clause-each
 returns-in-Some-clause-each c =
