@@ -1,22 +1,26 @@
 //! What a post changes in what a board keeps.
 
-ghost use Rattle.std.specs.Prelude.{◌≡◌, ◌<◌, ◌≤◌, ◌+◌, ◌++◌, ◌==◌, ℕ, length, map, slice_get, Some};
+ghost use Rattle.std.specs.Prelude.{◌≡◌, ◌<◌, ◌≤◌, ◌+◌, ◌++◌, ◌==◌, ℕ, true, length, map, slice_get, slice_set, Some};
 ghost use Rattle.xm_board.specs.Core.{cycle};
 ghost use Rattle.xm_board.specs.Inner.Logging.{IsLog};
-ghost use Rattle.xm_board.specs.Inner.Posting.{AreRisen, AreTold, HasHeard, IsTold, moves_on};
+ghost use Rattle.xm_board.specs.Inner.Posting.{AreNotedAt, AreRisen, AreRisenIf, AreTold, HasHeard, IsPushedAt, IsTold, IsTurnedAt, moves_on};
 ghost use Rattle.xm_board.specs.declared.row_log.RowLog.{RowLog};
 ghost use Rattle.xm_board.specs.declared.two_cycles.TwoCycles.{TwoCycles};
+ghost use Rattle.xm_model.specs.ListView.{ListView};
 ghost use Rattle.xm_model.specs.Signals.{Signals};
 ghost use Rattle.xm_parts.specs.Kept.{label_at};
 ghost use Rattle.xm_parts.specs.Partition.{channels_in, cuts_in};
 ghost use Rattle.xm_parts.specs.Projection.{wire_of};
+ghost use Rattle.xm_trace.specs.declared.trace.Move.{Move};
 
 use crate::board_core::BoardCore;
+use crate::newest::Newest;
 use crate::row_log::RowLog;
 use crate::two_cycles::TwoCycles;
+use std::mem::swap;
 use xm_design::Design;
 use xm_model::{List, Wire};
-use xm_parts::{PartRow, Parts, far};
+use xm_parts::{Change, PartRow, Parts, far};
 use xm_trace::{Move, note_move};
 
 /// Lets the first row of each part go.
@@ -28,6 +32,66 @@ pub fn rise_all(logs: &mut [RowLog])
     for p in 0..logs.len() {
         logs[p].rise();
     }
+}
+
+/// Lets them go where the floor rises.
+pub fn rise_if(logs: &mut List<RowLog>, rises: bool)
+    requires some { rises ≡ true → (p : ℕ) (log : RowLog) → slice_get logs.old.items p ≡ Some log
+        → 0 < length log.changes.items }
+    requires logs { (p : ℕ) (log : RowLog) → slice_get logs.old.items p ≡ Some log → IsLog log }
+    ensures { AreRisenIf rises logs.old.items logs.new.items }
+{
+    if rises {
+        rise_all(logs.as_mut_slice());
+    }
+}
+
+/// Appends what differs to the rows of part `p`. There is room for it.
+pub fn push_at(logs: &mut List<RowLog>, p: u32, change: Change)
+    requires part { p < length logs.old.items }
+    requires room { (log : RowLog) → slice_get logs.old.items p ≡ Some log
+        → length log.changes.items < log.changes.room }
+    ensures { IsPushedAt logs.old.items p change logs.new.items }
+{
+    logs.as_mut_slice()[p as usize].push(change);
+}
+
+/// Notes the moves of part `p` in a cycle. There is room for one on each of its channels.
+pub fn note_at(moves: &mut List<List<Move>>, p: u32, t: u32, channels: &[u32], wires: &[Wire])
+    requires part { p < length moves.old.items }
+    requires whole { length wires.now ≡ length channels.now }
+    requires room { (ms : ListView Move) → slice_get moves.old.items p ≡ Some ms
+        → length ms.items + length channels.now ≤ ms.room }
+    ensures { AreNotedAt moves.old.items p t channels.now wires.now moves.new.items }
+{
+    note_moves(
+        &mut moves.as_mut_slice()[p as usize],
+        t,
+        channels,
+        wires,
+    );
+}
+
+fn turn(it: &mut TwoCycles)
+    ensures { it.new ≡ record { now = it.old.next; next = it.old.now } }
+{
+    swap(&mut it.now, &mut it.next);
+}
+
+/// Makes the next cycle of part `p` its own.
+pub fn turn_at(far: &mut List<TwoCycles>, p: u32)
+    requires { p < length far.old.items }
+    ensures { IsTurnedAt far.old.items p far.new.items }
+{
+    turn(&mut far.as_mut_slice()[p as usize]);
+}
+
+/// Puts the newest row of part `p` to the others.
+pub fn put_newest<'a>(newest: &mut List<Option<Newest<'a>>>, p: u32, it: Newest<'a>)
+    requires { p < length newest.old.items }
+    ensures { newest.new.items ≡ slice_set newest.old.items p (Some it.entry) }
+{
+    newest.as_mut_slice()[p as usize] = Some(it);
 }
 
 /// Notes the moves of a cycle on the channels of a part. There is room for one on each.

@@ -1,8 +1,9 @@
 -- What a post changes in what a board keeps.
-use Rattle.std.specs.Prelude.{◌≡◌, ◌≢◌, ℕ, suc, Bool, true, false, cond, List, [], ◌∷◌, ◌++◌, drop, length, map, Some, slice_get}
+use Rattle.std.specs.Prelude.{◌≡◌, ◌≢◌, ℕ, suc, Bool, true, false, cond, List, [], ◌∷◌, ◌++◌, drop, length, map, Some, slice_get, slice_set as set}
 use Rattle.xm_board.specs.Inner.Logging.{IsRoomyLog}
 use Rattle.xm_board.specs.declared.row_log.RowLog.{RowLog}
 use Rattle.xm_board.specs.declared.two_cycles.TwoCycles.{TwoCycles}
+use Rattle.xm_model.specs.ListView.{ListView}
 use Rattle.xm_model.specs.Net.{Network}
 use Rattle.xm_model.specs.Next.{move}
 use Rattle.xm_model.specs.Signals.{Signals}
@@ -59,3 +60,32 @@ pub record AreTold (net : Network) (label : ℕ → ℕ) (p : ℕ) (wires : List
       IsTold net label p q (level q) was it
   pub heard : (q : ℕ) (it : TwoCycles) → AreNeighbours net label p q → slice_get new q ≡ Some it →
       HasHeard net label p q wires (level q) it
+
+-- part p's rows are one more
+pub record IsPushedAt (old : List RowLog) (p : ℕ) (change : Change) (new : List RowLog) : Type 0 where
+  pub was : RowLog
+  pub log : RowLog
+  pub at : slice_get old p ≡ Some was
+  pub pushed : IsPushed was change log
+  pub new_is : new ≡ set old p log
+
+-- part p's moves have those on these channels behind them
+pub record AreNotedAt (old : List (ListView Move)) (p t : ℕ) (channels : List ℕ) (wires : List Wire)
+    (new : List (ListView Move)) : Type 0 where
+  pub was : ListView Move
+  pub moves : ListView Move
+  pub at : slice_get old p ≡ Some was
+  pub items : (φ : Signals) → wires ≡ map (wire_of φ) channels → moves.items ≡ was.items ++ moves_on φ t channels
+  pub room : moves.room ≡ was.room
+  pub new_is : new ≡ set old p moves
+
+-- what moved in part p's next cycle moves in its own
+pub record IsTurnedAt (old : List TwoCycles) (p : ℕ) (new : List TwoCycles) : Type 0 where
+  pub was : TwoCycles
+  pub at : slice_get old p ≡ Some was
+  pub new_is : new ≡ set old p (record { now = was.next; next = was.now })
+
+-- the first rows have gone, or nothing has
+abbrev pub AreRisenIf : Bool → List RowLog → List RowLog → Type 0
+AreRisenIf true old new = AreRisen old new
+AreRisenIf false old new = new ≡ old
