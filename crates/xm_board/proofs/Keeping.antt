@@ -1,9 +1,9 @@
 -- A board stays one where its core changes in what is out, or in that it is stopped.
-use Rattle.std.proofs.Common.{◌≡◌, ℕ, suc, ◌<◌, Bool, true, false, List, length, zero, [], ◌∷◌, inl, inr, Option, Some, slice_get, length-set, set, ap, sym, ◌∙◌, subst, arith}
+use Rattle.std.proofs.Common.{◌≡◌, ◌≢◌, ℕ, suc, ◌<◌, Bool, true, false, List, length, zero, [], ◌∷◌, inl, inr, Option, Some, slice_get, get_or, length-set, set, ap, sym, ◌∙◌, subst, arith, refl}
 use Rattle.std.specs.List.{refill}
-use Rattle.std.specs.Prelude.{slice_index_or, slice_set}
+use Rattle.std.specs.Prelude.{◌⊎◌, slice_index_or, slice_set}
 use Rattle.std.proofs.lemmas.Bool.Decides.{eqb_tells}
-use Rattle.std.proofs.lemmas.Option.{same_Some}
+use Rattle.std.proofs.lemmas.Option.{same_Some, slice_get-get_or}
 use Rattle.xm_board.proofs.Standing.{was_out}
 use Rattle.xm_order.specs.Lemmas.Items.{get-set_other, get-set_same}
 use Rattle.xm_model.specs.Lending.{refill-full}
@@ -130,3 +130,21 @@ pub rows_of_run : (one two : RunName) (p t u : ℕ) (it : Newest) → one ≡ tw
 rows_of_run one two p t u it same at is =
     subst (λ (k : ℕ). (s : ℕ → ℕ → Content) (φ : ℕ → Signals) → IsNamed two s φ → row_of it.row ≡ row_at two s φ p k) at
     (subst (λ (r : RunName). (s : ℕ → ℕ → Content) (φ : ℕ → Signals) → IsNamed r s φ → row_of it.row ≡ row_at r s φ p t) same is)
+
+-- the item at a place of a list that is lent
+pub lent_at : {X : Type 0} (xs ys : List X) (p : ℕ) (d : X) → ys ≡ xs → p < length xs → slice_get xs p ≡ Some (get_or ys p d)
+lent_at {X} xs ys p d e h = subst (λ (zs : List X). slice_get xs p ≡ Some (get_or zs p d)) (sym e) (slice_get-get_or xs p d h)
+
+-- what stands in a list after a write at a place
+pub set_cases : {X : Type 0} (xs : List X) (p : ℕ) (y : X) (q : ℕ) (x : X) → p < length xs → slice_get (set xs p y) q ≡ Some x → ((q ≡ p) × (y ≡ x)) ⊎ ((q ≢ p) × (slice_get xs q ≡ Some x))
+set_cases xs p y q x h at =
+    elim (eqb_tells q p) [
+      | inl t ↦ inl (t.1, is_at xs p y x h (ap (slice_get (set xs p y)) (sym t.1) ∙ at))
+      | inr t ↦ inr (t.1, sym (get-set_other xs p q y t.1) ∙ at)
+    ]
+
+-- there is an item at each place of a list
+pub item_at : {X : Type 0} (xs : List X) (k : ℕ) → k < length xs → (x : X) × (slice_get xs k ≡ Some x)
+item_at [] k h = absurd (omega arith)
+item_at (x ∷ xs) zero h = (x, refl)
+item_at (x ∷ xs) (suc k) h = item_at xs k (omega arith)

@@ -2,4 +2,5 @@
 pub mod Choosing
 pub mod Jobs
 pub mod Logging
+pub mod Posting
 pub mod Standing

@@ -7,6 +7,7 @@ mod board_core;
 mod job;
 mod laws;
 mod newest;
+mod posting;
 mod row_log;
 mod two_cycles;
 

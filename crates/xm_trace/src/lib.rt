@@ -17,4 +17,4 @@ pub use labels::Labels;
 pub use laws::{rounds_follow, rounds_join};
 pub use run_text::{RunText, Total};
 pub use text::trace_text;
-pub use trace::{Move, Trace, run_all, run_round};
+pub use trace::{Move, Trace, note_move, run_all, run_round};

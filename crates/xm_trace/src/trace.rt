@@ -47,7 +47,7 @@ pub fn move_on(cycle: u32, channel: u32, wire: Wire) -> Option<Move>
 }
 
 /// Notes the move on the channel in the cycle, if there is one. There is room for it.
-fn note_move(moves: &mut List<Move>, cycle: u32, channel: u32, wire: Wire)
+pub fn note_move(moves: &mut List<Move>, cycle: u32, channel: u32, wire: Wire)
     requires { length moves.old.items < moves.old.room }
     ensures items { moves.new.items ≡ moves.old.items ++ moved_on cycle channel (only_if wire.ready wire.offer) }
     ensures few { length moves.new.items ≤ length moves.old.items + 1 }
