@@ -3,11 +3,11 @@ use Rattle.std.proofs.Common.{◌≡◌, ◌≢◌, ℕ, suc, ◌+◌, ◌<◌, 
 use Rattle.std.proofs.lemmas.Bool.{cases_lt}
 use Rattle.std.proofs.lemmas.Bool.Decides.{eqb_tells}
 use Rattle.xm_design.specs.declared.tasks.Task.{Task}
-use Rattle.xm_model.specs.Component.{Component, Content, Fork, Join, Queue}
+use Rattle.xm_model.specs.Component.{Component, Content, Fork, Join}
 use Rattle.xm_model.specs.Lemmas.PortCounts.{at_first}
 use Rattle.xm_model.specs.Ports
 use Rattle.xm_model.specs.Ports.{HasInput, HasOutput}
-use Rattle.xm_model.specs.Signals.{Signals}
+use Rattle.xm_model.specs.Signals.{Signals, held_in, offer_chosen, pending_in, ready_chosen}
 use Rattle.xm_model.specs.declared.state.Choice.{Choice}
 use Rattle.xm_order.specs.Dependence
 use Rattle.xm_order.specs.Dependence.{Needs}
@@ -17,10 +17,11 @@ use Rattle.xm_order.specs.declared.signal.Signal.{Signal}
 use Rattle.xm_order.specs.declared.signal.Signal.TheVariants as signal
 use Rattle.xm_plan.specs.Inner.Made.{AreMade, AreSettledTo, IsDone, IsLeft, IsStep}
 use Rattle.xm_plan.specs.Inner.Operations
-use Rattle.xm_plan.specs.Inner.Operations.{FitsOperation, IsOperationOf, all_tasks, prim_of, signals_made, task_of}
+use Rattle.xm_plan.specs.Inner.Operations.{FitsOperation, IsOperationOf, MayStay, all_tasks, prim_of, signals_made, task_of}
 use Rattle.xm_plan.proofs.Operating.{signal_at, tasks_length}
 use Rattle.std.proofs.lemmas.List.{take_all}
 use Rattle.std.proofs.lemmas.Option.{slice_get_within}
+use Rattle.xm_plan.specs.Lemmas.Standing.{held_ready, standing_offer}
 use Rattle.xm_plan.specs.Shown.{AreShown, IsShown}
 use Rattle.xm_plan.specs.declared.operation.Operation.{Operation}
 use Rattle.xm_plan.specs.declared.operation.Operation.TheVariants as operation
@@ -145,29 +146,56 @@ operation_settled prims s w ops schedule first φ ψ choices k op at fits before
     rw (add-one, tasks_length ops k op at)
     (settled_more prims s w (all_tasks ops) schedule first (prim_of op) fits.prim (signals_made op) (length (all_tasks (take k ops))) φ ψ fits.has before (λ j σ e. signal_at ops k j op σ at e) (done fits.prim fits.has))
 
-shown_of : (choices : List ℕ) (m : Component) (s : Content) (φ : Signals) (p input out capacity : ℕ) → IsOperationOf choices (operation.Queue p input out capacity) m → IsShown m s φ → IsShown (Queue input out capacity []) s φ
-shown_of choices m s φ p input out capacity Operations.queue shown = shown
+same_step : (m : Component) (s : Content) (w : Choice) (φ : Signals) (σ : Signal) → IsMadeFrom m s w φ φ σ → IsStep m s w φ φ σ
+same_step m s w φ σ value = record { value = value; only = λ τ other. same_self φ τ }
+
+-- signals that show what the primitive holds need not be made
+pub shown_done : (choices : List ℕ) (m : Component) (s : Content) (w : Choice) (φ : Signals) (op : Operation) → MayStay op → IsOperationOf choices op m → IsShown m s φ → AreMade m s w φ (signals_made op) φ
+shown_done choices m s w φ (operation.Source p out choice mode) may (Operations.source {colours = colours} at eager) shown =
+    (φ, (same_step m s w φ (signal.Offer out) (shown.1 ∙ sym (standing_offer mode colours (pending_in s) (offer_chosen w) shown.0)), refl))
+shown_done choices m s w φ (operation.Sink p input choice mode) may (Operations.sink at) shown =
+    (φ, (same_step m s w φ (signal.Ready input) (shown.1 ∙ sym (held_ready mode (held_in s) (ready_chosen w) shown.0)), refl))
+shown_done choices m s w φ (operation.Queue p input out capacity) may Operations.queue shown =
+    (φ, (same_step m s w φ (signal.Offer out) shown.0, (φ, (same_step m s w φ (signal.Ready input) shown.1, refl))))
+shown_done choices m s w φ (operation.Function p input out) may is shown = absurd may
+shown_done choices m s w φ (operation.ForkPlain p input a b n) may is shown = absurd may
+shown_done choices m s w φ (operation.Fork p input a b) may is shown = absurd may
+shown_done choices m s w φ (operation.Join p a b out pass) may is shown = absurd may
+shown_done choices m s w φ (operation.SwitchOffers p input a b) may is shown = absurd may
+shown_done choices m s w φ (operation.SwitchReady p input a b) may is shown = absurd may
+shown_done choices m s w φ (operation.Merge p a b out) may is shown = absurd may
+shown_done choices m s w φ (operation.One task) may is shown = absurd may
+
+-- what was shown is shown still, where the operation's signals are the same
+shown_still : (choices : List ℕ) (m : Component) (s : Content) (φ ψ : Signals) (op : Operation) → MayStay op → IsOperationOf choices op m → ((i : ℕ) (σ : Signal) → slice_get (signals_made op) i ≡ Some σ → Same φ ψ σ) → IsShown m s φ → IsShown m s ψ
+shown_still choices m s φ ψ (operation.Source p out choice mode) may (Operations.source at eager) same shown = (shown.0, sym (same 0 (signal.Offer out) refl) ∙ shown.1)
+shown_still choices m s φ ψ (operation.Sink p input choice mode) may (Operations.sink at) same shown = (shown.0, sym (same 0 (signal.Ready input) refl) ∙ shown.1)
+shown_still choices m s φ ψ (operation.Queue p input out capacity) may Operations.queue same shown = (sym (same 0 (signal.Offer out) refl) ∙ shown.0, sym (same 1 (signal.Ready input) refl) ∙ shown.1)
+shown_still choices m s φ ψ (operation.Function p input out) may is same shown = absurd may
+shown_still choices m s φ ψ (operation.ForkPlain p input a b n) may is same shown = absurd may
+shown_still choices m s φ ψ (operation.Fork p input a b) may is same shown = absurd may
+shown_still choices m s φ ψ (operation.Join p a b out pass) may is same shown = absurd may
+shown_still choices m s φ ψ (operation.SwitchOffers p input a b) may is same shown = absurd may
+shown_still choices m s φ ψ (operation.SwitchReady p input a b) may is same shown = absurd may
+shown_still choices m s φ ψ (operation.Merge p a b out) may is same shown = absurd may
+shown_still choices m s φ ψ (operation.One task) may is same shown = absurd may
+
+-- the primitive of an operation that fits
+pub operation_of : (prims : List Component) (choices : List ℕ) (op : Operation) (m : Component) → FitsOperation prims choices op → slice_get prims (prim_of op) ≡ Some m → IsOperationOf choices op m
+operation_of prims choices op m fits has =
+    let there = fits.has in
+    let same : fits.prim ≡ m = cc in
+    subst (λ (n : Component). IsOperationOf choices op n) same fits.is
 
 -- what an operation may leave is shown still
 pub left_settled : (prims : List Component) (s : ℕ → Content) (w : ℕ → Choice) (changed : List Bool) (ops : List Operation) → IsSchedule prims (all_tasks ops) → (first φ : Signals) (choices : List ℕ) (k : ℕ) (op : Operation) →
-    slice_get ops k ≡ Some op → FitsOperation prims choices op → AreShown prims s changed first → AreSettledTo prims s w (all_tasks ops) first (length (all_tasks (take k ops))) φ → IsLeft s changed φ op
-left_settled prims s w changed ops schedule first φ choices k (operation.Queue p input out capacity) at fits shown before = λ unchanged.
-    let op : Operation = operation.Queue p input out capacity in
+    slice_get ops k ≡ Some op → FitsOperation prims choices op → AreShown prims s changed first → AreSettledTo prims s w (all_tasks ops) first (length (all_tasks (take k ops))) φ → IsLeft prims s changed φ op
+left_settled prims s w changed ops schedule first φ choices k op at fits shown before = λ m has unchanged may.
     let n = length (all_tasks (take k ops)) in
-    let was = shown_of choices fits.prim (s p) first p input out capacity fits.is (shown p fits.prim fits.has unchanged) in
-    let apart : (i : ℕ) (σ : Signal) → slice_get (signals_made op) i ≡ Some σ → (j : ℕ) (task : Task) → j < n → slice_get (all_tasks ops) j ≡ Some task → task.signal ≢ σ = λ i σ e j task less there same.
-    let one = schedule.once j (n + i) task (task_of p σ) there (signal_at ops k i op σ at e) same in absurd (omega arith) in
-    (sym (before.others (signal.Offer out) (apart 0 (signal.Offer out) refl)) ∙ was.0, sym (before.others (signal.Ready input) (apart 1 (signal.Ready input) refl)) ∙ was.1)
-left_settled prims s w changed ops schedule first φ choices k (operation.Source p out choice mode) at fits shown before = tt
-left_settled prims s w changed ops schedule first φ choices k (operation.Sink p input choice mode) at fits shown before = tt
-left_settled prims s w changed ops schedule first φ choices k (operation.Function p input out) at fits shown before = tt
-left_settled prims s w changed ops schedule first φ choices k (operation.ForkPlain p input a b n) at fits shown before = tt
-left_settled prims s w changed ops schedule first φ choices k (operation.Fork p input a b) at fits shown before = tt
-left_settled prims s w changed ops schedule first φ choices k (operation.Join p a b out pass) at fits shown before = tt
-left_settled prims s w changed ops schedule first φ choices k (operation.SwitchOffers p input a b) at fits shown before = tt
-left_settled prims s w changed ops schedule first φ choices k (operation.SwitchReady p input a b) at fits shown before = tt
-left_settled prims s w changed ops schedule first φ choices k (operation.Merge p a b out) at fits shown before = tt
-left_settled prims s w changed ops schedule first φ choices k (operation.One task) at fits shown before = tt
+    shown_still choices m (s (prim_of op)) first φ op may (operation_of prims choices op m fits has)
+    (λ i σ e. before.others σ (λ j task less there same.
+    let one = schedule.once j (n + i) task (task_of (prim_of op) σ) there (signal_at ops k i op σ at e) same in absurd (omega arith)))
+    (shown (prim_of op) m has unchanged)
 
 -- all operations
 pub all_settled : (prims : List Component) (s : ℕ → Content) (w : ℕ → Choice) (ops : List Operation) (first φ : Signals) (k : ℕ) → length ops ≤ k →

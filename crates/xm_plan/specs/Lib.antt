@@ -1,4 +1,5 @@
 pub mod Inner
+pub mod Lemmas
 pub mod Planned
 pub mod Schedule
 pub mod Shown

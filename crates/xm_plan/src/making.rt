@@ -10,10 +10,10 @@ ghost use Rattle.xm_order.specs.Dependence.{channel_of};
 ghost use Rattle.xm_order.specs.Settle.{ChangesOnly};
 ghost use Rattle.xm_order.specs.declared.signal.Signal.TheVariants as signal;
 ghost use Rattle.xm_plan.specs.Inner.Made.{AreMade, IsDone, IsLeft, SettlesOn};
-ghost use Rattle.xm_plan.specs.Inner.Operations.{AllFit, AreApart, FitsOperation, Keeps, all_tasks, kept, table_a_in, table_b_in, table_in, to_a_in};
+ghost use Rattle.xm_plan.specs.Inner.Operations.{AllFit, AreApart, FitsOperation, Keeps, MayStay, all_tasks, kept, prim_of, table_a_in, table_b_in, table_in, to_a_in};
 ghost use Rattle.xm_plan.specs.Planned.{choice_for};
 ghost use Rattle.xm_plan.specs.Schedule.{ArePlaced, AreSettled, IsSchedule, LeavesOthers};
-ghost use Rattle.xm_plan.specs.Shown.{AreShown, IsShown};
+ghost use Rattle.xm_plan.specs.Shown.{AreShown};
 ghost use Rattle.xm_plan.specs.declared.operation.Operation.{Operation as Op};
 
 use crate::cells::{chosen_offer, offer_in, ready_in};
@@ -100,39 +100,6 @@ fn make_queue<C: HasCell>(cell: &C, input: u32, out: u32, capacity: u32, wires: 
     let (offer, ready) = (cell.oldest(), cell.count() < capacity as usize);
     put_offer(wires, out, offer);
     put_ready(wires, input, ready);
-}
-
-/// Whether a primitive is noted as unchanged.
-fn is_unchanged(changed: &[bool], prim: u32) -> bool
-    ensures { IsTrue result → slice_get changed.now prim ≡ Some false }
-{
-    match changed.get(prim as usize) {
-        Some(changed) => !*changed,
-        None => false,
-    }
-}
-
-/// Makes the signals of a queue, unless they show already what it holds.
-fn renew_queue<C: HasCell>(
-    cell: &C,
-    unchanged: bool,
-    input: u32,
-    out: u32,
-    capacity: u32,
-    wires: &mut [Wire],
-)
-    requires input { input < length wires.old }
-    requires out { out < length wires.old }
-    ensures { (initial : Colours ℕ) (w : Chosen)
-        → (IsTrue unchanged → IsShown (Queue input out capacity initial) (content_of (C.cell cell.now))
-        (signals_of wires.old))
-        → AreMade (Queue input out capacity initial) (content_of (C.cell cell.now)) w (signals_of wires.old)
-        (signal.Offer out ∷ signal.Ready input ∷ []) (signals_of wires.new) }
-{
-    if unchanged {
-        return;
-    }
-    make_queue(cell, input, out, capacity, wires);
 }
 
 fn make_function(table: &[u8], input: u32, out: u32, wires: &mut [Wire])
@@ -361,14 +328,13 @@ fn to_a(prim: &Prim) -> &[bool]
     }
 }
 
-/// Makes the signals of one operation, but leaves those of a queue that is noted as unchanged. It is inlined in each loop over a kind, where the kind is known.
+/// Makes the signals of one operation. It is inlined in each loop over a kind, where the kind is known.
 #[inline(always)]
 fn make<C: HasCell>(
     operation: Operation,
     prims: &[Prim],
     choices: &[u32],
     cells: &[C],
-    changed: &[bool],
     row: &[Choice],
     wires: &mut [Wire],
 )
@@ -376,8 +342,7 @@ fn make<C: HasCell>(
     requires placed { ArePlaced (map component_of prims.now) (length wires.old) }
     requires cells { length cells.now ≡ length prims.now }
     requires choices { length choices.now ≡ length prims.now }
-    ensures { IsLeft (content_at (map C.cell cells.now)) changed.now (signals_of wires.old) operation
-        → IsDone (map component_of prims.now) (content_at (map C.cell cells.now)) (choice_for choices.now row.now)
+    ensures { IsDone (map component_of prims.now) (content_at (map C.cell cells.now)) (choice_for choices.now row.now)
         (signals_of wires.old) operation (signals_of wires.new) }
 {
     match operation {
@@ -398,17 +363,7 @@ fn make<C: HasCell>(
             input,
             out,
             capacity,
-        } => {
-            let unchanged = is_unchanged(changed, prim);
-            renew_queue(
-                &cells[prim as usize],
-                unchanged,
-                input,
-                out,
-                capacity,
-                wires,
-            );
-        }
+        } => make_queue(&cells[prim as usize], input, out, capacity, wires),
         Operation::Function { prim, input, out } => {
             make_function(table(&prims[prim as usize]), input, out, wires)
         }
@@ -444,6 +399,48 @@ fn make<C: HasCell>(
             make_one(&prims[p], &cells[p], row, choices[p], task.signal, wires)
         }
     }
+}
+
+/// Whether the operation's primitive is one whose signals may stay, and is noted as unchanged.
+#[inline(always)]
+fn stays(operation: Operation, changed: &[bool]) -> bool
+    ensures { IsTrue result → MayStay operation × (slice_get changed.now (prim_of operation) ≡ Some false) }
+{
+    match operation {
+        Operation::Source { prim, .. }
+        | Operation::Sink { prim, .. }
+        | Operation::Queue { prim, .. } => match changed.get(prim as usize) {
+            Some(changed) => !*changed,
+            None => false,
+        },
+        _ => false,
+    }
+}
+
+/// Makes the signals of one operation, unless they stay.
+#[inline(always)]
+fn renew<C: HasCell>(
+    operation: Operation,
+    prims: &[Prim],
+    choices: &[u32],
+    cells: &[C],
+    changed: &[bool],
+    row: &[Choice],
+    wires: &mut [Wire],
+)
+    requires fits { FitsOperation (map component_of prims.now) choices.now operation }
+    requires placed { ArePlaced (map component_of prims.now) (length wires.old) }
+    requires cells { length cells.now ≡ length prims.now }
+    requires choices { length choices.now ≡ length prims.now }
+    ensures { IsLeft (map component_of prims.now) (content_at (map C.cell cells.now)) changed.now
+        (signals_of wires.old) operation
+        → IsDone (map component_of prims.now) (content_at (map C.cell cells.now)) (choice_for choices.now row.now)
+        (signals_of wires.old) operation (signals_of wires.new) }
+{
+    if stays(operation, changed) {
+        return;
+    }
+    make(operation, prims, choices, cells, row, wires);
 }
 
 /// The kinds of operation, as far as a run of one kind is done by a loop of its own.
@@ -515,10 +512,10 @@ fn make_run<C: HasCell>(
     ensures settled { SettlesOn (map component_of prims.now) (content_at (map C.cell cells.now))
         (choice_for choices.now row.now) changed.now operations.now from (signals_of wires.old) result (signals_of wires.new) }
 {
-    make(operations[from], prims, choices, cells, changed, row, wires);
+    renew(operations[from], prims, choices, cells, changed, row, wires);
     let mut k = from + 1;
     while k < operations.len() && is_of(kind, operations[k]) {
-        make(operations[k], prims, choices, cells, changed, row, wires);
+        renew(operations[k], prims, choices, cells, changed, row, wires);
         k += 1;
     }
     k

@@ -212,7 +212,7 @@ impl Plan {
         self.solve_changed(prims, cells, &[], row, wires);
     }
 
-    /// The same, where the wires show already what the queues hold that are noted as unchanged.
+    /// The same, where the wires show already what the sources, sinks and queues hold that are noted as unchanged.
     pub fn solve_changed<C: HasCell>(
         &self,
         prims: &[Prim],

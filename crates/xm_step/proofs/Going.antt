@@ -1,5 +1,5 @@
 -- The cells of the queues, and then those of the other primitives, past a cycle.
-use Rattle.std.proofs.Common.{◌≡◌, ℕ, ◌+◌, ◌<◌, ◌≤◌, Bool, true, false, nat_lt, List, [], ◌∷◌, Option, Some, None, drop, length, set, get_or, slice_get, refl, sym, ap, ap₂, ◌∙◌, subst, inl, inr, arith, length-append, length-drop}
+use Rattle.std.proofs.Common.{◌≡◌, ◌⊎◌, ℕ, ◌+◌, ◌<◌, ◌≤◌, Bool, true, false, nat_lt, List, [], ◌∷◌, Option, Some, None, drop, length, set, get_or, slice_get, refl, sym, ap, ap₂, ◌∙◌, subst, inl, inr, arith, length-append, length-drop}
 use Rattle.std.specs.Option.{option_to_list}
 use Rattle.std.proofs.lemmas.Bool.{cases_lt, ltb-true}
 use Rattle.std.proofs.lemmas.List.{get_or_default}
@@ -159,6 +159,44 @@ queue_placed ms n queues others kinds places placed k it at =
     let has = (kinds.queue_at k it at).0.has in
     (placed it.prim _ it.input has (inr queue_input), placed it.prim _ it.out has (inl queue_output))
 
+-- one queue more, and one other
+pub queue_out : (queues : List QueuePlace) (k : ℕ) (it : QueuePlace) → slice_get queues k ≡ Some it → (q : ℕ) → IsAmongQueues queues (k + 1) q → IsAmongQueues queues k q ⊎ (q ≡ it.prim)
+queue_out queues k it at q after = elim (cases_lt after.0 k) [
+  | inl less ↦ inl (after.0, (after.1.0, (less, after.1.1.1)))
+  | inr late ↦
+      let bound = after.1.1.0 in
+      let here_too : after.0 ≡ k = omega arith in
+      let there = after.1.1.1.0 in
+      let one : after.1.0 ≡ it = let e = ap (λ (j : ℕ). slice_get queues j) here_too in cc in
+      inr (sym after.1.1.1.1 ∙ ap (λ (x : QueuePlace). x.prim) one)
+]
+
+pub queue_in : (queues : List QueuePlace) (k q : ℕ) → IsAmongQueues queues k q → IsAmongQueues queues (k + 1) q
+queue_in queues k q b = (b.0, (b.1.0, ((let less = b.1.1.0 in omega arith), b.1.1.1)))
+
+pub queue_here : (queues : List QueuePlace) (k : ℕ) (it : QueuePlace) → slice_get queues k ≡ Some it → IsAmongQueues queues (k + 1) it.prim
+queue_here queues k it at = (k, (it, ((omega arith), (at, refl))))
+
+pub other_out : (queues : List QueuePlace) (others : List Holder) (i : ℕ) (it : Holder) → slice_get others i ≡ Some it → (q : ℕ) → IsAmongBoth queues others (i + 1) q → IsAmongBoth queues others i q ⊎ (q ≡ it.prim)
+other_out queues others i it at q after = elim after [
+  | inl queue ↦ inl (inl queue)
+  | inr other ↦ elim (cases_lt other.0 i) [
+    | inl less ↦ inl (inr (other.0, (other.1.0, (less, other.1.1.1))))
+    | inr late ↦
+        let bound = other.1.1.0 in
+        let here_too : other.0 ≡ i = omega arith in
+        let there = other.1.1.1.0 in
+        let one : other.1.0 ≡ it = let e = ap (λ (j : ℕ). slice_get others j) here_too in cc in
+        inr (sym other.1.1.1.1 ∙ ap (λ (x : Holder). x.prim) one)
+  ]
+]
+
+pub other_in : (queues : List QueuePlace) (others : List Holder) (i q : ℕ) → IsAmongBoth queues others i q → IsAmongBoth queues others (i + 1) q
+other_in queues others i q b = elim b [ inl queue ↦ inl queue | inr other ↦ inr (other.0, (other.1.0, ((let less = other.1.1.0 in omega arith), other.1.1.1))) ]
+
+pub other_here : (queues : List QueuePlace) (others : List Holder) (i : ℕ) (it : Holder) → slice_get others i ≡ Some it → IsAmongBoth queues others (i + 1) it.prim
+other_here queues others i it at = inr (i, (it, ((omega arith), (at, refl))))
+
 module _ (ms : List Component) (old : List Cell) (φ : Signals) (queues : List QueuePlace) (others : List Holder) (n : ℕ) (kinds : AreKindsTo ms n queues others) (roomy : IsRoomy ms old) (guarded : IsGuardedBy ms old φ) (whole : n ≡ length old) where
   queue_fresh : (k : ℕ) (it : QueuePlace) → slice_get queues k ≡ Some it → IsAmongQueues queues k it.prim → ⊥
   queue_fresh k it at among =
@@ -166,7 +204,7 @@ module _ (ms : List Component) (old : List Cell) (φ : Signals) (queues : List Q
       let same = kinds.queues_once among.0 k among.1.0 it among.1.1.1.0 at among.1.1.1.1 in
       absurd (omega arith)
 
-  other_fresh : (i : ℕ) (it : Holder) → slice_get others i ≡ Some it → IsAmongBoth queues others i it.prim → ⊥
+  pub other_fresh : (i : ℕ) (it : Holder) → slice_get others i ≡ Some it → IsAmongBoth queues others i it.prim → ⊥
   other_fresh i it at among = elim among [
     | inl queue ↦ kinds.apart queue.0 i queue.1.0 it queue.1.1.1.0 at queue.1.1.1.1
     | inr other ↦ (let less = other.1.1.0 in let same = kinds.others_once other.0 i other.1.0 it other.1.1.1.0 at other.1.1.1.1 in absurd (omega arith))
@@ -194,17 +232,7 @@ module _ (ms : List Component) (old : List Cell) (φ : Signals) (queues : List Q
     unfolding is_queue queue_can
     queue_gone d here went =
         gone_more ms old now φ (IsAmongQueues queues k) (IsAmongQueues queues (k + 1)) it.prim (Queue it.input it.out is_queue.capacity is_queue.initial) here queue_within is_queue.has
-        (λ q after. elim (cases_lt after.0 k) [
-          | inl less ↦ inl (after.0, (after.1.0, (less, after.1.1.1)))
-          | inr late ↦
-              let bound = after.1.1.0 in
-              let here_too : after.0 ≡ k = omega arith in
-              let there = after.1.1.1.0 in
-              let one : after.1.0 ≡ it = let e = ap (λ (j : ℕ). slice_get queues j) here_too in cc in
-              inr (sym after.1.1.1.1 ∙ ap (λ (x : QueuePlace). x.prim) one)
-        ])
-        (λ q b. (b.0, (b.1.0, ((let less = b.1.1.0 in omega arith), b.1.1.1))))
-        (k, (it, ((omega arith), (at, refl))))
+        (queue_out queues k it at) (queue_in queues k) (queue_here queues k it at)
         (subst (λ (x : Cell). IsAdvanced (Queue it.input it.out is_queue.capacity is_queue.initial) x here φ) (queue_cell d) (went is_queue.capacity is_queue.initial (queue_can d).1))
         before
 
@@ -215,7 +243,7 @@ module _ (ms : List Component) (old : List Cell) (φ : Signals) (queues : List Q
     pub other_within : it.prim < length now
     other_within = let h = (kinds.other_at i it at).1 in omega arith
 
-    other_cell : (d : Cell) → get_or now it.prim d ≡ cell_at old it.prim
+    pub other_cell : (d : Cell) → get_or now it.prim d ≡ cell_at old it.prim
     other_cell d = get_or_default now it.prim d cell.Nothing other_within ∙ before.rest it.prim (other_fresh i it at)
 
     pub other_can : (d : Cell) → (m : Component) × CanGoOn it.holds m (get_or now it.prim d) φ
@@ -229,20 +257,7 @@ module _ (ms : List Component) (old : List Cell) (φ : Signals) (queues : List Q
     unfolding is_other other_can
     other_gone d here went =
         gone_more ms old now φ (IsAmongBoth queues others i) (IsAmongBoth queues others (i + 1)) it.prim is_other.prim here other_within is_other.has
-        (λ q after. elim after [
-          | inl queue ↦ inl (inl queue)
-          | inr other ↦ elim (cases_lt other.0 i) [
-            | inl less ↦ inl (inr (other.0, (other.1.0, (less, other.1.1.1))))
-            | inr late ↦
-                let bound = other.1.1.0 in
-                let here_too : other.0 ≡ i = omega arith in
-                let there = other.1.1.1.0 in
-                let one : other.1.0 ≡ it = let e = ap (λ (j : ℕ). slice_get others j) here_too in cc in
-                inr (sym other.1.1.1.1 ∙ ap (λ (x : Holder). x.prim) one)
-          ]
-        ])
-        (λ q b. elim b [ inl queue ↦ inl queue | inr other ↦ inr (other.0, (other.1.0, ((let less = other.1.1.0 in omega arith), other.1.1.1))) ])
-        (inr (i, (it, ((omega arith), (at, refl)))))
+        (other_out queues others i it at) (other_in queues others i) (other_here queues others i it at)
         (subst (λ (x : Cell). IsAdvanced is_other.prim x here φ) (other_cell d) (went is_other.prim (other_can d).1))
         before
 

@@ -3,7 +3,7 @@ use Rattle.std.proofs.Common.{◌≡◌, ℕ, ◌+◌, List, [], ◌∷◌, ◌+
 use Rattle.std.proofs.lemmas.Bool.{cases_lt}
 use Rattle.xm_model.specs.Component.{Component, Fork, Function, Join, Merge, Queue, Sink, Source, Switch}
 use Rattle.xm_order.specs.Lemmas.Items.{get-append_left, get-push_last, push_cases}
-use Rattle.xm_step.specs.Inner.Kinds.{AreKindsTo, IsHolderAt, IsHoldingOf, IsIdleAt, IsNoQueue, IsQueueAt}
+use Rattle.xm_step.specs.Inner.Kinds.{AreKindsTo, IsHolderAt, IsHoldingOf, IsIdleAt, IsQueueAt}
 use Rattle.xm_step.specs.Still.{HoldsNothing}
 use Rattle.xm_step.specs.declared.kinds.Holding.{Holding}
 use Rattle.xm_step.specs.declared.kinds.Holding.TheVariants as holding
@@ -118,16 +118,6 @@ busy_told (Fork i a b t u) h is busy idle = busy is
 busy_told (Join a b o s) h is busy idle = busy is
 busy_told (Switch i a b t) h is busy idle = busy is
 busy_told (Merge a b o) h is busy idle = idle
-
-pub plain_told : (m : Component) (h : Holding) → IsHoldingOf h m → ((input out : ℕ) → h ≡ holding.Packets input out → ⊥) → IsNoQueue m
-plain_told (Source o cs md) h is none = tt
-plain_told (Sink i md) h is none = tt
-plain_told (Queue i o cap ini) h is none = none i o is
-plain_told (Function i o t) h is none = tt
-plain_told (Fork i a b t u) h is none = tt
-plain_told (Join a b o s) h is none = tt
-plain_told (Switch i a b t) h is none = tt
-plain_told (Merge a b o) h is none = tt
 
 pub queue_told : (ms : List Component) (p : ℕ) (m : Component) (h : Holding) (input out : ℕ) → slice_get ms p ≡ Some m → IsHoldingOf h m → h ≡ holding.Packets input out → IsQueueAt ms (record { prim = p; input = input; out = out })
 queue_told ms p (Queue i o cap ini) h input out has is packets = record {

@@ -6,7 +6,7 @@ use Rattle.xm_model.specs.declared.state.Cell.{Cell}
 use Rattle.xm_plan.specs.Shown.{AreShown}
 use Rattle.xm_step.specs.declared.running.RunningFrame.{RunningFrame}
 
--- it has a wire for each channel, and shows what each queue holds that is noted as unchanged
+-- it has a wire for each channel, and shows what each primitive holds that is noted as unchanged
 pub record IsInStep (net : Network) (cells : List Cell) (it : RunningFrame) : Type 0 where
   pub wires : length it.frame.wires.items ≡ net.channels
   pub changed : length it.changed.items ≡ length net.prims

@@ -56,7 +56,8 @@ pub fn running_of(alloc: Global, design: &Design, state: &State) -> Result<Runni
     Ok(Running { slots })
 }
 
-/// A frame that a running state goes on with, and which queues may have changed since their signals in it were made.
+/// A frame that a running state goes on with, and which primitives may have changed since their signals in it were
+/// made.
 #[derive(Drop)]
 pub struct RunningFrame {
     pub frame: Frame,
@@ -74,7 +75,8 @@ pub fn running_frame(alloc: Global, design: &Design) -> Result<RunningFrame, Out
 }
 
 /// One cycle: `frame` becomes the frame of the state, and then the state the next one. No room changes. What holds
-/// nothing is not visited, and the signals of a queue are made only where it has changed.
+/// nothing is not visited. A queue that has not changed, a source with a pending colour and a sink that is held keep their
+/// signals.
 pub fn step_running(
     evaluator: &Evaluator,
     running: &mut Running,

@@ -1,14 +1,15 @@
 //! What stands before the colour of a move, made once for each channel.
 
-ghost use Rattle.std.specs.Prelude.{◌≡◌, ◌+◌, ◌*◌, ◌^◌, ◌<◌, ◌≤◌, ◌++◌, length, take, IfOk};
+ghost use Rattle.std.specs.Prelude.{◌≡◌, ◌+◌, ◌*◌, ◌^◌, ◌<◌, ◌≤◌, ◌++◌, length, take, IfOk, IsTrue};
 ghost use Rattle.xm_model.specs.Limits.{most_channels};
 ghost use Rattle.xm_model.specs.TextLines.{name_at};
 ghost use Rattle.xm_model.specs.Naming.{naming_of, texts_of};
 ghost use Rattle.xm_trace.specs.Inner.Labels.{AreLabels, AreReady, label_text, labelled_of, move_room};
+ghost use Rattle.xm_trace.specs.Inner.Pieces.{AreWithin, pieces_text};
 ghost use Rattle.xm_trace.specs.Labels.{AreLabelsOf};
 ghost use Rattle.xm_trace.specs.Text.{move_label};
 
-use crate::pieces::{Pieces, pieces_of, put_at};
+use crate::pieces::{Pieces, no_pieces, pairs_of, pieces_of, put_at};
 use crate::trace::Move;
 use std::alloc::Global;
 use std::marker::Model;
@@ -46,11 +47,59 @@ pub fn label_at(labels: &[Text], channel: usize) -> &[u8]
     }
 }
 
-/// The two texts of a move: what stands before its colour, by channel, and the colour.
+/// The two texts of a move: what stands before its colour, by channel, and the colour. `pairs` are both as one, that
+/// of colour `d` on channel `c` at `c * width + d`; where these would be many there are none, and `width` is 0.
 #[derive(Drop)]
 pub struct MoveTexts {
     pub channels: Pieces,
     pub colours: Pieces,
+    pub pairs: Pieces,
+    pub width: u32,
+}
+
+/// How many pairs of a channel and a colour have a text of their own at most.
+const MOST_PAIRS: usize = 4096;
+
+/// Whether each pair is to have a text of its own.
+fn are_few(channels: usize, colours: usize) -> bool
+    ensures { IsTrue result → colours < 2 ^ 32 }
+{
+    channels <= MOST_PAIRS && colours <= MOST_PAIRS && channels * colours <= MOST_PAIRS
+}
+
+/// These texts, with those of their pairs where they are few.
+fn with_pairs(
+    alloc: Global,
+    labels: &[Text],
+    names: &[Text],
+    channels: Pieces,
+    colours: Pieces,
+) -> Result<MoveTexts, OutOfMemory>
+    requires channels { pieces_text channels ≡ texts_of labels.now }
+    requires channels_within { AreWithin channels }
+    requires colours { pieces_text colours ≡ texts_of names.now }
+    requires colours_within { AreWithin colours }
+    ensures channels { IfOk result (λ texts. texts.channels ≡ channels) }
+    ensures colours { IfOk result (λ texts. texts.colours ≡ colours) }
+    ensures ready { IfOk result AreReady }
+{
+    if are_few(labels.len(), names.len()) {
+        let pairs = pairs_of(alloc, labels, names)?;
+        if pairs.widest as u64 <= channels.widest as u64 + colours.widest as u64 {
+            return Ok(MoveTexts {
+                channels,
+                colours,
+                pairs,
+                width: names.len() as u32,
+            });
+        }
+    }
+    Ok(MoveTexts {
+        channels,
+        colours,
+        pairs: no_pieces(alloc),
+        width: 0,
+    })
 }
 
 /// The texts of the moves of a net with these names.
@@ -61,7 +110,13 @@ fn move_texts(alloc: Global, names: &Names) -> Result<MoveTexts, OutOfMemory>
     let labels = labels_of(alloc, names.channels.as_slice())?;
     let channels = pieces_of(alloc, labels.as_slice())?;
     let colours = pieces_of(alloc, names.colours.as_slice())?;
-    Ok(MoveTexts { channels, colours })
+    with_pairs(
+        alloc,
+        labels.as_slice(),
+        names.colours.as_slice(),
+        channels,
+        colours,
+    )
 }
 
 /// How many bytes of room the moves of a cycle need at most.
@@ -82,6 +137,12 @@ pub fn put_move(out: &mut [u8], at: usize, texts: &MoveTexts, it: Move) -> usize
     ensures within { result ≤ at + move_room texts.now }
     ensures len { length out.new ≡ length out.old }
 {
+    if (it.colour as u32) < texts.width {
+        let pair = it.channel as usize * texts.width as usize + usize::from(it.colour);
+        if pair < texts.pairs.list.len() {
+            return put_at(out, at, &texts.pairs, pair);
+        }
+    }
     let labelled = put_at(out, at, &texts.channels, it.channel as usize);
     put_at(out, labelled, &texts.colours, usize::from(it.colour))
 }
@@ -106,8 +167,9 @@ impl Model for Labels {
 }
 
 impl Labels {
-    /// The labels of a net with these names. They take 32 bytes for each channel and colour, and the bytes of each
-    /// name of more than 16 bytes, with what stands around a channel's.
+    /// The labels of a net with these names. They take 32 bytes for each channel and colour, and for each pair of
+    /// them if there are few, and the bytes of each text of more than 16 bytes, with what stands around a channel's
+    /// name.
     pub fn new(alloc: Global, names: &Names) -> Result<Labels, OutOfMemory>
         ensures { IfOk result (AreLabelsOf (naming_of names.now)) }
     {

@@ -2,7 +2,7 @@
 
 ghost use Rattle.std.specs.Prelude.{◌≡◌, ◌+◌, ◌<◌, ◌≤◌, ◌^◌, [], ◌∷◌, ◌++◌, length, map, take, slice_index_or, IfOk, OnOk};
 ghost use Rattle.xm_model.specs.Naming.{texts_of};
-ghost use Rattle.xm_trace.specs.Inner.Pieces.{AreWithin, piece_len, piece_room, piece_text, pieces_text};
+ghost use Rattle.xm_trace.specs.Inner.Pieces.{AreWithin, before_each, pairs_text, piece_len, piece_room, piece_text, pieces_text};
 
 use std::alloc::Global;
 use xm_model::{List, OutOfMemory, Text};
@@ -76,17 +76,74 @@ fn push_piece(alloc: Global, pieces: &mut Pieces, text: &[u8]) -> Result<(), Out
     pieces.list.push(piece)
 }
 
+/// No texts.
+pub fn no_pieces(alloc: Global) -> Pieces
+    ensures texts { pieces_text result ≡ [] }
+    ensures within { AreWithin result }
+    ensures widest { result.widest ≡ 0 }
+{
+    Pieces {
+        list: List::new(alloc),
+        widest: 0,
+    }
+}
+
 /// The texts as pieces.
 pub fn pieces_of(alloc: Global, texts: &[Text]) -> Result<Pieces, OutOfMemory>
     ensures texts { IfOk result (λ pieces. pieces_text pieces ≡ texts_of texts.now) }
     ensures within { IfOk result AreWithin }
 {
-    let mut pieces = Pieces {
-        list: List::new(alloc),
-        widest: 0,
-    };
+    let mut pieces = no_pieces(alloc);
     for text in texts {
         push_piece(alloc, &mut pieces, text.as_bytes())?;
+    }
+    Ok(pieces)
+}
+
+/// Appends one text before another, as one.
+fn push_joined(
+    alloc: Global,
+    pieces: &mut Pieces,
+    first: &[u8],
+    second: &[u8],
+) -> Result<(), OutOfMemory>
+    requires { AreWithin pieces.old }
+    ensures texts { OnOk result (pieces_text pieces.new ≡ pieces_text pieces.old ++ (first.now ++ second.now) ∷ []) }
+    ensures within { OnOk result (AreWithin pieces.new) }
+{
+    let mut text = Text::new(alloc);
+    text.push_bytes(first)?;
+    text.push_bytes(second)?;
+    push_piece(alloc, pieces, text.as_bytes())
+}
+
+/// Appends the text before each of the others.
+fn push_before_each(
+    alloc: Global,
+    pieces: &mut Pieces,
+    first: &[u8],
+    others: &[Text],
+) -> Result<(), OutOfMemory>
+    requires { AreWithin pieces.old }
+    ensures texts { OnOk result (pieces_text pieces.new
+        ≡ pieces_text pieces.old ++ before_each (texts_of others.now) first.now) }
+    ensures within { OnOk result (AreWithin pieces.new) }
+{
+    for other in others {
+        push_joined(alloc, pieces, first, other.as_bytes())?;
+    }
+    Ok(())
+}
+
+/// Each of the first texts before each of the others.
+pub fn pairs_of(alloc: Global, firsts: &[Text], others: &[Text]) -> Result<Pieces, OutOfMemory>
+    ensures texts { IfOk result
+        (λ pieces. pieces_text pieces ≡ pairs_text (texts_of others.now) (texts_of firsts.now)) }
+    ensures within { IfOk result AreWithin }
+{
+    let mut pieces = no_pieces(alloc);
+    for first in firsts {
+        push_before_each(alloc, &mut pieces, first.as_bytes(), others)?;
     }
     Ok(pieces)
 }

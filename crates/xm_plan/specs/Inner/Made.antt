@@ -1,16 +1,15 @@
 -- Inner: signals made one after another. No public clause cites these.
 use Rattle.std.specs.Prelude.{◌≡◌, ◌≢◌, ℕ, ◌<◌, Bool, false, List, [], ◌∷◌, Some, length, slice_get, take}
 use Rattle.xm_design.specs.declared.tasks.Task.{Task}
-use Rattle.xm_model.specs.Component.{Component, Content, Queue}
+use Rattle.xm_model.specs.Component.{Component, Content}
 use Rattle.xm_model.specs.Signals.{Signals}
 use Rattle.xm_model.specs.declared.state.Choice.{Choice}
 use Rattle.xm_order.specs.Settle.{ChangesOnly, Same}
 use Rattle.xm_order.specs.declared.signal.Signal.{Signal}
-use Rattle.xm_plan.specs.Inner.Operations.{all_tasks, prim_of, signals_made}
+use Rattle.xm_plan.specs.Inner.Operations.{MayStay, all_tasks, prim_of, signals_made}
 use Rattle.xm_plan.specs.Schedule.{IsMadeFrom}
 use Rattle.xm_plan.specs.Shown.{AreShown, IsShown}
 use Rattle.xm_plan.specs.declared.operation.Operation.{Operation}
-use Rattle.xm_plan.specs.declared.operation.Operation.TheVariants as operation
 
 -- one signal was made, and no other has changed
 pub record IsStep (m : Component) (s : Content) (w : Choice) (φ ψ : Signals) (σ : Signal) : Type 0 where
@@ -36,11 +35,11 @@ pub record AreSettledTo (prims : List Component) (s : ℕ → Content) (w : ℕ 
   pub others : (σ : Signal) → ((k : ℕ) (task : Task) → k < n → slice_get tasks k ≡ Some task → task.signal ≢ σ) →
       Same φ ψ σ
 
--- where the operation leaves a queue that is noted as unchanged, the signals show what it holds
-abbrev pub IsLeft : (ℕ → Content) → List Bool → Signals → Operation → Type 0
-IsLeft s changed φ (operation.Queue p input out capacity) =
-    slice_get changed p ≡ Some false → IsShown (Queue input out capacity []) (s p) φ
-IsLeft s changed φ _ = Unit {0}
+-- where the operation's signals stay, they show what its primitive holds
+abbrev pub IsLeft : List Component → (ℕ → Content) → List Bool → Signals → Operation → Type 0
+IsLeft prims s changed φ op =
+    (m : Component) → slice_get prims (prim_of op) ≡ Some m → slice_get changed (prim_of op) ≡ Some false →
+    MayStay op → IsShown m (s (prim_of op)) φ
 
 -- where the tasks of the first operations were settled, those up to another operation are
 abbrev pub SettlesOn : List Component → (ℕ → Content) → (ℕ → Choice) → List Bool → List Operation → ℕ → Signals →

@@ -39,6 +39,13 @@ prim_of (operation.SwitchReady p _ _ _) = p
 prim_of (operation.Merge p _ _ _) = p
 prim_of (operation.One task) = task.prim
 
+-- its primitive's signals may stay as they are
+abbrev pub MayStay : Operation → Type 0
+MayStay (operation.Source _ _ _ _) = Unit {0}
+MayStay (operation.Sink _ _ _ _) = Unit {0}
+MayStay (operation.Queue _ _ _ _) = Unit {0}
+MayStay _ = ⊥
+
 -- the signals that it makes, one after another
 abbrev pub signals_made : Operation → List Signal
 signals_made (operation.Source _ out _ _) = signal.Offer out ∷ []

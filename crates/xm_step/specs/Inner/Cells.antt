@@ -1,14 +1,18 @@
 -- Inner: one cell past a cycle, and at reset. No public clause cites these.
-use Rattle.std.specs.Prelude.{◌≡◌, ℕ, Bool, false, List, [], length, slice_get, None, Some}
-use Rattle.xm_model.specs.Component.{Component, Queue, content_of}
+use Rattle.std.specs.Prelude.{◌≡◌, ℕ, Bool, true, false, List, [], length, slice_get, Option, None, Some}
+use Rattle.xm_model.specs.Component.{Component, Content, Queue, Sink, Source, content_of}
 use Rattle.xm_model.specs.Next.{move, reset_content}
-use Rattle.xm_model.specs.Signals.{Signals, packets_in}
+use Rattle.xm_model.specs.Signals.{Signals, held_in, packets_in, pending_in}
+use Rattle.xm_model.specs.declared.primitive.SinkMode.{SinkMode}
+use Rattle.xm_model.specs.declared.primitive.SourceMode.{SourceMode}
 use Rattle.xm_model.specs.declared.state.Cell.{Cell}
+use Rattle.xm_plan.specs.Shown.{IsHeld, IsPending}
 use Rattle.xm_step.specs.Advanced.{IsAdvanced, IsGuarded}
 use Rattle.xm_step.specs.Inner.Kinds.{IsHoldingOf}
 use Rattle.xm_step.specs.Roomy.{IsRoomyCell, cell_at}
 use Rattle.xm_step.specs.Still.{HoldsNothing}
 use Rattle.xm_step.specs.declared.kinds.Holding.{Holding}
+use Rattle.xm_step.specs.declared.kinds.Holding.TheVariants as holding
 
 pub record IsGuardedBy (ms : List Component) (cells : List Cell) (φ : Signals) : Type 0 where
   pub guarded : (p : ℕ) (m : Component) → slice_get ms p ≡ Some m → IsGuarded m (cell_at cells p) φ
@@ -39,15 +43,39 @@ pub record KeptAdvance (ms : List Component) (old new : List Cell) (φ : Signals
       IsAdvanced m (cell_at old p) (cell_at new p) φ
   pub rest : (p : ℕ) (m : Component) → slice_get ms p ≡ Some m → HoldsNothing m → cell_at new p ≡ cell_at old p
 
--- nothing passes the queue in this cycle
-abbrev pub IsIdle : Component → Signals → Type 0
-IsIdle (Queue input out _ _) φ = (move φ out ≡ None) × (move φ input ≡ None)
-IsIdle _ φ = Unit {0}
+-- the source offered its pending colour, and will again
+abbrev pub IsAgain : SourceMode → Option ℕ → Option ℕ → Type 0
+IsAgain mode pending offer = IsPending mode pending × (offer ≡ pending)
 
--- nothing passed a queue that is noted as unchanged
-abbrev pub AreNoted : List Component → List Bool → Signals → Type 0
-AreNoted ms changed φ =
-    (p : ℕ) (m : Component) → slice_get ms p ≡ Some m → slice_get changed p ≡ Some false → IsIdle m φ
+-- the sink was ready, and will be again
+abbrev pub IsReadyAgain : SinkMode → Bool → Bool → Type 0
+IsReadyAgain mode held ready = IsHeld mode held × (ready ≡ true)
+
+-- what is held, which is s, is shown by the signals
+abbrev pub IsStanding : Holding → Content → Signals → Type 0
+IsStanding (holding.Pending out mode) s φ = IsAgain mode (pending_in s) (φ.offer out)
+IsStanding (holding.Held input mode) s φ = IsReadyAgain mode (held_in s) (φ.ready input)
+IsStanding _ s φ = Unit {0}
+
+-- the primitive, which now holds t, has the same signals in the next cycle: nothing passed a queue
+abbrev pub IsIdle : Component → Content → Signals → Type 0
+IsIdle (Source out _ mode) t φ = IsAgain mode (pending_in t) (φ.offer out)
+IsIdle (Sink input mode) t φ = IsReadyAgain mode (held_in t) (φ.ready input)
+IsIdle (Queue input out _ _) t φ = (move φ out ≡ None) × (move φ input ≡ None)
+IsIdle _ t φ = Unit {0}
+
+-- so do those that are noted as unchanged
+abbrev pub AreNoted : List Component → List Cell → List Bool → Signals → Type 0
+AreNoted ms now changed φ =
+    (p : ℕ) (m : Component) → slice_get ms p ≡ Some m → slice_get changed p ≡ Some false →
+    IsIdle m (content_of (cell_at now p)) φ
+
+-- some primitives are noted, and the notes of all others are as they were
+pub record HaveNoted (ms : List Component) (now : List Cell) (before changed : List Bool) (φ : Signals)
+    (Gone : ℕ → Type 0) : Type 0 where
+  pub noted : (p : ℕ) (m : Component) → Gone p → slice_get ms p ≡ Some m → slice_get changed p ≡ Some false →
+      IsIdle m (content_of (cell_at now p)) φ
+  pub rest : (p : ℕ) → (Gone p → ⊥) → slice_get changed p ≡ slice_get before p
 
 -- the cell is that at reset, with its room
 pub record IsResetCell (m : Component) (x : Cell) : Type 0 where

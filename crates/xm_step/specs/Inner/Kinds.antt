@@ -1,8 +1,6 @@
 -- Inner: the queues of a net and its other primitives that hold something, listed. No public clause cites these.
-use Rattle.std.specs.Prelude.{◌≡◌, ℕ, ◌<◌, ◌⊎◌, Bool, false, List, None, Some, length, slice_get}
+use Rattle.std.specs.Prelude.{◌≡◌, ℕ, ◌<◌, ◌⊎◌, List, Some, length, slice_get}
 use Rattle.xm_model.specs.Component.{Component, Merge, Queue, Sink, Source}
-use Rattle.xm_model.specs.Next.{move}
-use Rattle.xm_model.specs.Signals.{Signals}
 use Rattle.xm_step.specs.Still.{HoldsNothing}
 use Rattle.xm_step.specs.declared.kinds.Holder.{Holder}
 use Rattle.xm_step.specs.declared.kinds.Holding.{Holding}
@@ -23,17 +21,12 @@ pub record IsQueueAt (ms : List Component) (it : QueuePlace) : Type 0 where
   pub initial : List ℕ
   pub has : slice_get ms it.prim ≡ Some (Queue it.input it.out capacity initial)
 
-abbrev pub IsNoQueue : Component → Type 0
-IsNoQueue (Queue _ _ _ _) = ⊥
-IsNoQueue _ = Unit {0}
-
--- the primitive at this number, which is no queue, holds this
+-- the primitive at this number holds this
 pub record IsHolderAt (ms : List Component) (it : Holder) : Type 0 where
   pub prim : Component
   pub has : slice_get ms it.prim ≡ Some prim
   pub holds : IsHoldingOf it.holds prim
   pub busy : HoldsNothing prim → ⊥
-  pub plain : IsNoQueue prim
 
 -- the primitive at this number holds nothing
 pub record IsIdleAt (ms : List Component) (p : ℕ) : Type 0 where
@@ -54,12 +47,6 @@ pub record AreKindsTo (ms : List Component) (n : ℕ) (queues : List QueuePlace)
       x.prim ≡ y.prim → j ≡ k
   pub apart : (j k : ℕ) (x : QueuePlace) (y : Holder) → slice_get queues j ≡ Some x → slice_get others k ≡ Some y →
       x.prim ≡ y.prim → ⊥
-
--- nothing passed those of the first k queues that are noted as unchanged
-abbrev pub AreNotedTo : List QueuePlace → ℕ → List Bool → Signals → Type 0
-AreNotedTo queues k changed φ =
-    (j : ℕ) (it : QueuePlace) → j < k → slice_get queues j ≡ Some it → slice_get changed it.prim ≡ Some false →
-    (move φ it.out ≡ None) × (move φ it.input ≡ None)
 
 -- the primitive is one of the first k queues
 abbrev pub IsAmongQueues : List QueuePlace → ℕ → ℕ → Type 0

@@ -1,8 +1,8 @@
 -- Inner: what stands before the colour of a move, for each channel. No public clause cites this.
-use Rattle.std.specs.Prelude.{◌≡◌, ℕ, ◌+◌, List, [], ◌++◌, map, slice_index_or}
+use Rattle.std.specs.Prelude.{◌≡◌, ℕ, ◌+◌, ◌<◌, ◌≤◌, List, [], ◌++◌, length, map, slice_index_or}
 use Rattle.xm_model.specs.ListView.{ListView}
 use Rattle.xm_model.specs.Naming.{texts_of}
-use Rattle.xm_trace.specs.Inner.Pieces.{AreWithin, pieces_text}
+use Rattle.xm_trace.specs.Inner.Pieces.{AreWithin, pairs_text, pieces_text}
 use Rattle.xm_trace.specs.Labels.{Labelled}
 use Rattle.xm_trace.specs.Text.{move_label}
 use Rattle.xm_trace.specs.declared.labels.MoveTexts.{MoveTexts}
@@ -15,10 +15,18 @@ AreLabels channels labels = texts_of labels ≡ map move_label (texts_of channel
 abbrev pub labelled_of : MoveTexts → Labelled
 labelled_of texts = record { channels = pieces_text texts.channels; colours = pieces_text texts.colours }
 
--- no text needs more room than is noted
+-- the pairs, where there are some, are those of all channels with all colours
+pub record ArePaired (texts : MoveTexts) : Type 0 where
+  pub width : texts.width ≡ length (pieces_text texts.colours)
+  pub pairs : pieces_text texts.pairs ≡ pairs_text (pieces_text texts.colours) (pieces_text texts.channels)
+
+-- no text needs more room than is noted, and a pair none more than its two texts
 pub record AreReady (texts : MoveTexts) : Type 0 where
   pub channels : AreWithin texts.channels
   pub colours : AreWithin texts.colours
+  pub pairs : AreWithin texts.pairs
+  pub narrow : texts.pairs.widest ≤ texts.channels.widest + texts.colours.widest
+  pub paired : 0 < texts.width → ArePaired texts
 
 -- how many bytes a move needs at most
 abbrev pub move_room : MoveTexts → ℕ

@@ -18,17 +18,17 @@ loop-k-init g c =
       later = omega arith;
       within = omega (arith, c.requires.from);
       settled = λ φ shown before.
-          operation_settled _ (content_at (map g.C.HasCell.cell c.args.cells.now)) (choice_for c.args.choices.now c.args.row.now) c.args.operations.now c.requires.schedule φ (signals_of c.args.wires.now) (signals_of c.make.new.wires) c.args.choices.now c.args.from op
-          at (c.requires.fit c.args.from op at) before (c.make.ensures (left_settled _ (content_at (map g.C.HasCell.cell c.args.cells.now)) (choice_for c.args.choices.now c.args.row.now) c.args.changed.now c.args.operations.now c.requires.schedule φ (signals_of c.args.wires.now) c.args.choices.now c.args.from op at (c.requires.fit c.args.from op at) shown before));
+          operation_settled _ (content_at (map g.C.HasCell.cell c.args.cells.now)) (choice_for c.args.choices.now c.args.row.now) c.args.operations.now c.requires.schedule φ (signals_of c.args.wires.now) (signals_of c.renew.new.wires) c.args.choices.now c.args.from op
+          at (c.requires.fit c.args.from op at) before (c.renew.ensures (left_settled _ (content_at (map g.C.HasCell.cell c.args.cells.now)) (choice_for c.args.choices.now c.args.row.now) c.args.changed.now c.args.operations.now c.requires.schedule φ (signals_of c.args.wires.now) c.args.choices.now c.args.from op at (c.requires.fit c.args.from op at) shown before));
     }
 
-pub make-requires-in-loop-k-clause-fits : goal.make-requires-in-loop-k-clause-fits
-make-requires-in-loop-k-clause-fits g c =
+pub renew-requires-in-loop-k-clause-fits : goal.renew-requires-in-loop-k-clause-fits
+renew-requires-in-loop-k-clause-fits g c =
     c.requires.fit c.loop-k.k _ (slice_get-get_or c.args.operations.now c.loop-k.k (operation.Source 0 0 0 source_mode.Keep) c.loop-k-test.true)
 
-pub make-requires-in-loop-k-clause-placed : goal.make-requires-in-loop-k-clause-placed
-make-requires-in-loop-k-clause-placed g c =
-    let same : length c.args.wires.now ≡ length c.loop-k.wires = sym (c.loop-k.auto.wires ∙ c.make.auto.wires) in
+pub renew-requires-in-loop-k-clause-placed : goal.renew-requires-in-loop-k-clause-placed
+renew-requires-in-loop-k-clause-placed g c =
+    let same : length c.args.wires.now ≡ length c.loop-k.wires = sym (c.loop-k.auto.wires ∙ c.renew.auto.wires) in
     subst (λ (n : ℕ). ArePlaced (map component_of c.args.prims.now) n) same c.requires.placed
 
 pub loop-k-preserved : goal.loop-k-preserved
@@ -39,6 +39,6 @@ loop-k-preserved g c =
       later = omega (arith, c.loop-k.invariant.later);
       within = omega (arith, c.loop-k-test.true);
       settled = λ φ shown before.
-          operation_settled _ (content_at (map g.C.HasCell.cell c.args.cells.now)) (choice_for c.args.choices.now c.args.row.now) c.args.operations.now c.requires.schedule φ (signals_of c.loop-k.wires) (signals_of c.make-in-loop-k.new.wires) c.args.choices.now c.loop-k.k op
-          at (c.requires.fit c.loop-k.k op at) (c.loop-k.invariant.settled φ shown before) (c.make-in-loop-k.ensures (left_settled _ (content_at (map g.C.HasCell.cell c.args.cells.now)) (choice_for c.args.choices.now c.args.row.now) c.args.changed.now c.args.operations.now c.requires.schedule φ (signals_of c.loop-k.wires) c.args.choices.now c.loop-k.k op at (c.requires.fit c.loop-k.k op at) shown (c.loop-k.invariant.settled φ shown before)));
+          operation_settled _ (content_at (map g.C.HasCell.cell c.args.cells.now)) (choice_for c.args.choices.now c.args.row.now) c.args.operations.now c.requires.schedule φ (signals_of c.loop-k.wires) (signals_of c.renew-in-loop-k.new.wires) c.args.choices.now c.loop-k.k op
+          at (c.requires.fit c.loop-k.k op at) (c.loop-k.invariant.settled φ shown before) (c.renew-in-loop-k.ensures (left_settled _ (content_at (map g.C.HasCell.cell c.args.cells.now)) (choice_for c.args.choices.now c.args.row.now) c.args.changed.now c.args.operations.now c.requires.schedule φ (signals_of c.loop-k.wires) c.args.choices.now c.loop-k.k op at (c.requires.fit c.loop-k.k op at) shown (c.loop-k.invariant.settled φ shown before)));
     }

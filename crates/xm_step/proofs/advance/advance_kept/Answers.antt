@@ -1,14 +1,18 @@
-use Rattle.std.proofs.Common.{List, length, map, get_or, refl, sym, ◌∙◌, rules, arith}
+use Rattle.std.proofs.Common.{◌≡◌, ◌+◌, List, length, map, get_or, refl, sym, ◌∙◌, rules, arith}
 use Rattle.std.proofs.lemmas.Option.{slice_get-get_or}
 use Rattle.xm_model.specs.Component.{Component}
 use Rattle.xm_model.specs.Views.{signals_of}
-use Rattle.xm_step.specs.Inner.Kinds.{AreKindsTo}
+use Rattle.xm_step.specs.Inner.Kinds.{AreKindsTo, IsAmongBoth, IsAmongQueues}
 use Rattle.xm_step.specs.declared.kinds.Holder.{Holder}
 use Rattle.xm_step.specs.declared.kinds.Holding.TheVariants as holding
 use Rattle.xm_step.specs.declared.kinds.QueuePlace.{QueuePlace}
-use Rattle.xm_step.proofs.Going.{all_gone, both_from_queues, pass_has_room, pass_went, queue_placed}
+use Rattle.xm_step.proofs.Going.{all_gone, both_from_queues, other_here, other_in, other_out, pass_has_room, pass_went, queue_here, queue_in, queue_out, queue_placed}
 use Rattle.xm_step.proofs.Mapped.{other_can_by, other_gone_by, other_within_by, queue_can_by, queue_gone_by, queue_within_by, same_length}
-use Rattle.xm_step.proofs.Noting.{all_noted, noted_more}
+use Rattle.xm_step.proofs.Advancing.{none_gone}
+use Rattle.xm_step.proofs.Noting.{all_noted, both_noted, holder_is, none_noted, noted_by, queue_idle, standing_by}
+use Rattle.xm_step.specs.Inner.Cells.{IsStanding}
+use Rattle.xm_model.specs.Component.{content_of}
+use Rattle.std.specs.Prelude.{IsTrue}
 use Rattle.xm_step.proofs.advance.advance_kept.Goals as goal
 
 pub bounds-cells-queue : goal.bounds-cells-queue
@@ -53,6 +57,12 @@ bounds-changed-queue g c =
     let h = (kinds.queue_at c.loop-k.k it (slice_get-get_or c.as_slice-queues.result.now c.loop-k.k (record { prim = 0; input = 0; out = 0 }) c.loop-k-test.true)).1 in
     omega (arith, h, c.loop-k.auto.changed, c.requires.changed)
 
+pub loop-k-init : goal.loop-k-init
+loop-k-init g c = record {
+  gone = none_gone _ _ _ _ (λ p among. absurd (let less = among.1.1.0 in omega arith));
+  noted = none_noted _ _ _ _ _ (λ p among. absurd (let less = among.1.1.0 in omega arith));
+}
+
 pub loop-k-preserved : goal.loop-k-preserved
 loop-k-preserved g c =
     let ms : List Component = c.args.evaluator.now.net.prims in
@@ -63,42 +73,80 @@ loop-k-preserved g c =
       gone = queue_gone_by g.C.HasCell.cell ms c.args.cells.now (signals_of c.args.wires.now) c.as_slice-queues.result.now c.as_slice-others.result.now (length ms) kinds c.requires.roomy c.requires.guarded (sym c.requires.roomy.whole)
           c.loop-k.cells c.loop-k.auto.cells c.loop-k.k it at c.loop-k.invariant.gone c.index-cells-queue.result c.pass_any-any.new.cell
           (λ capacity initial can. pass_went it.input it.out capacity initial _ _ (signals_of c.args.wires.now) _ _ c.moved_in-leaves.ensures c.moved_in-comes.ensures c.pass_any-any.ensures.passed can);
-      noted = noted_more ms (length ms) c.as_slice-queues.result.now c.as_slice-others.result.now kinds (signals_of c.args.wires.now) c.loop-k.changed c.loop-k.k it c.pass_any-any.result at
-          (λ none. let still = c.pass_any-any.ensures.told none in (rw c.moved_in-leaves.ensures at still.0, rw c.moved_in-comes.ensures at still.1)) c.loop-k.invariant.noted;
+      noted = noted_by g.C.HasCell.cell ms c.loop-k.cells c.args.changed.now c.loop-k.changed (signals_of c.args.wires.now) (IsAmongQueues c.as_slice-queues.result.now c.loop-k.k) (IsAmongQueues c.as_slice-queues.result.now (c.loop-k.k + 1)) it.prim c.pass_any-any.new.cell c.pass_any-any.result
+          (queue_within_by g.C.HasCell.cell ms c.args.cells.now (signals_of c.args.wires.now) c.as_slice-queues.result.now c.as_slice-others.result.now (length ms) kinds c.requires.roomy c.requires.guarded (sym c.requires.roomy.whole) c.loop-k.cells c.loop-k.auto.cells c.loop-k.k it at c.loop-k.invariant.gone) (queue_out c.as_slice-queues.result.now c.loop-k.k it at) (queue_in c.as_slice-queues.result.now c.loop-k.k) (queue_here c.as_slice-queues.result.now c.loop-k.k it at)
+          (λ m has none. let still = c.pass_any-any.ensures.told none in
+          queue_idle ms it (kinds.queue_at c.loop-k.k it at).0 m _ (signals_of c.args.wires.now) has (rw c.moved_in-leaves.ensures at still.0) (rw c.moved_in-comes.ensures at still.1)) c.loop-k.invariant.noted;
     }
 
 pub loop-i-init : goal.loop-i-init
 loop-i-init g c =
     let ms : List Component = c.args.evaluator.now.net.prims in
     let kinds : AreKindsTo ms (length ms) c.as_slice-queues.result.now c.as_slice-others.result.now = rw (c.as_slice-queues.ensures, c.as_slice-others.ensures) c.kinds-kinds.ensures in
-    (c.as_slice-queues.result.now, (kinds, both_from_queues ms (map g.C.HasCell.cell c.args.cells.now) (map g.C.HasCell.cell c.loop-k.cells) (signals_of c.args.wires.now) c.as_slice-queues.result.now c.as_slice-others.result.now c.loop-k.k (let end = c.loop-k.auto.k-end in omega (arith, c.loop-k-test.false)) c.loop-k.invariant.gone))
+    let all : c.loop-k.k ≡ length c.as_slice-queues.result.now = (let end = c.loop-k.auto.k-end in omega (arith, c.loop-k-test.false)) in (
+      c.as_slice-queues.result.now,
+      (
+        kinds,
+        (
+          both_from_queues ms (map g.C.HasCell.cell c.args.cells.now) (map g.C.HasCell.cell c.loop-k.cells) (signals_of c.args.wires.now) c.as_slice-queues.result.now c.as_slice-others.result.now c.loop-k.k all c.loop-k.invariant.gone,
+          both_noted ms (map g.C.HasCell.cell c.loop-k.cells) c.args.changed.now c.loop-k.changed (signals_of c.args.wires.now) c.as_slice-queues.result.now c.as_slice-others.result.now c.loop-k.k all c.loop-k.invariant.noted,
+        ),
+      ),
+    )
 
 pub bounds-cells-other : goal.bounds-cells-other
 bounds-cells-other g c =
     let ms : List Component = c.args.evaluator.now.net.prims in
     let it : Holder = get_or c.as_slice-others.result.now c.loop-i.i (record { prim = 0; holds = holding.Packets 0 0 }) in
     other_within_by g.C.HasCell.cell ms c.args.cells.now (signals_of c.args.wires.now) c.loop-i.invariant.0 c.as_slice-others.result.now (length ms) c.loop-i.invariant.1.0 c.requires.roomy c.requires.guarded (sym c.requires.roomy.whole)
-    c.loop-i.cells (c.loop-i.auto.cells ∙ c.loop-k.auto.cells) c.loop-i.i it (slice_get-get_or c.as_slice-others.result.now c.loop-i.i (record { prim = 0; holds = holding.Packets 0 0 }) c.loop-i-test.true) c.loop-i.invariant.1.1
+    c.loop-i.cells (c.loop-i.auto.cells ∙ c.loop-k.auto.cells) c.loop-i.i it (slice_get-get_or c.as_slice-others.result.now c.loop-i.i (record { prim = 0; holds = holding.Packets 0 0 }) c.loop-i-test.true) c.loop-i.invariant.1.1.0
 
 pub offset_bounds-cells-other : goal.offset_bounds-cells-other
 offset_bounds-cells-other g c = let within = bounds-cells-other g c in search rules
 
-pub advance_holding-requires : goal.advance_holding-requires
-advance_holding-requires g c =
+pub advance_holding-any-requires : goal.advance_holding-any-requires
+advance_holding-any-requires g c =
     let ms : List Component = c.args.evaluator.now.net.prims in
     let it : Holder = get_or c.as_slice-others.result.now c.loop-i.i (record { prim = 0; holds = holding.Packets 0 0 }) in
     other_can_by g.C.HasCell.cell ms c.args.cells.now (signals_of c.args.wires.now) c.loop-i.invariant.0 c.as_slice-others.result.now (length ms) c.loop-i.invariant.1.0 c.requires.roomy c.requires.guarded (sym c.requires.roomy.whole)
-    c.loop-i.cells (c.loop-i.auto.cells ∙ c.loop-k.auto.cells) c.loop-i.i it (slice_get-get_or c.as_slice-others.result.now c.loop-i.i (record { prim = 0; holds = holding.Packets 0 0 }) c.loop-i-test.true) c.loop-i.invariant.1.1 c.index-cells-other.result
+    c.loop-i.cells (c.loop-i.auto.cells ∙ c.loop-k.auto.cells) c.loop-i.i it (slice_get-get_or c.as_slice-others.result.now c.loop-i.i (record { prim = 0; holds = holding.Packets 0 0 }) c.loop-i-test.true) c.loop-i.invariant.1.1.0 c.index-cells-other.result
+
+pub stays_at-stays-requires : goal.stays_at-stays-requires
+stays_at-stays-requires g c =
+    let ms : List Component = c.args.evaluator.now.net.prims in
+    let it : Holder = get_or c.as_slice-others.result.now c.loop-i.i (record { prim = 0; holds = holding.Packets 0 0 }) in
+    let at = slice_get-get_or c.as_slice-others.result.now c.loop-i.i (record { prim = 0; holds = holding.Packets 0 0 }) c.loop-i-test.true in
+    let h = (c.loop-i.invariant.1.0.other_at c.loop-i.i it at).1 in
+    omega (arith, h, c.loop-i.auto.changed, c.loop-k.auto.changed, c.requires.changed)
+
+pub bounds-changed-other : goal.bounds-changed-other
+bounds-changed-other g c =
+    let ms : List Component = c.args.evaluator.now.net.prims in
+    let it : Holder = get_or c.as_slice-others.result.now c.loop-i.i (record { prim = 0; holds = holding.Packets 0 0 }) in
+    let at = slice_get-get_or c.as_slice-others.result.now c.loop-i.i (record { prim = 0; holds = holding.Packets 0 0 }) c.loop-i-test.true in
+    let h = (c.loop-i.invariant.1.0.other_at c.loop-i.i it at).1 in
+    omega (arith, h, c.loop-i.auto.changed, c.loop-k.auto.changed, c.requires.changed)
 
 pub loop-i-preserved : goal.loop-i-preserved
 loop-i-preserved g c =
     let ms : List Component = c.args.evaluator.now.net.prims in
-    let it : Holder = get_or c.as_slice-others.result.now c.loop-i.i (record { prim = 0; holds = holding.Packets 0 0 }) in (
-      c.loop-i.invariant.0,
+    let it : Holder = get_or c.as_slice-others.result.now c.loop-i.i (record { prim = 0; holds = holding.Packets 0 0 }) in
+    let at = slice_get-get_or c.as_slice-others.result.now c.loop-i.i (record { prim = 0; holds = holding.Packets 0 0 }) c.loop-i-test.true in
+    let queues = c.loop-i.invariant.0 in
+    let kinds = c.loop-i.invariant.1.0 in
+    let standing : IsTrue c.stays_at-stays.result → IsStanding it.holds (content_of (g.C.HasCell.cell (get_or c.loop-i.cells it.prim c.index-cells-other.result))) (signals_of c.args.wires.now) = λ stays.
+    standing_by g.C.HasCell.cell ms c.args.cells.now (signals_of c.args.wires.now) queues c.as_slice-others.result.now (length ms) kinds c.requires.roomy c.requires.guarded (sym c.requires.roomy.whole)
+    c.loop-i.cells (c.loop-i.auto.cells ∙ c.loop-k.auto.cells) c.loop-i.i it at c.loop-i.invariant.1.1.0 c.index-cells-other.result c.args.changed.now c.loop-i.changed c.requires.shown c.loop-i.invariant.1.1.1 (c.stays_at-stays.ensures stays) in (
+      queues,
       (
-        c.loop-i.invariant.1.0,
-        other_gone_by g.C.HasCell.cell ms c.args.cells.now (signals_of c.args.wires.now) c.loop-i.invariant.0 c.as_slice-others.result.now (length ms) c.loop-i.invariant.1.0 c.requires.roomy c.requires.guarded (sym c.requires.roomy.whole)
-            c.loop-i.cells (c.loop-i.auto.cells ∙ c.loop-k.auto.cells) c.loop-i.i it (slice_get-get_or c.as_slice-others.result.now c.loop-i.i (record { prim = 0; holds = holding.Packets 0 0 }) c.loop-i-test.true) c.loop-i.invariant.1.1 c.index-cells-other.result c.advance_holding.new.cell c.advance_holding.ensures,
+        kinds,
+        (
+          other_gone_by g.C.HasCell.cell ms c.args.cells.now (signals_of c.args.wires.now) queues c.as_slice-others.result.now (length ms) kinds c.requires.roomy c.requires.guarded (sym c.requires.roomy.whole)
+              c.loop-i.cells (c.loop-i.auto.cells ∙ c.loop-k.auto.cells) c.loop-i.i it at c.loop-i.invariant.1.1.0 c.index-cells-other.result c.advance_holding-any.new.cell (λ m can. c.advance_holding-any.ensures.gone m can standing),
+          noted_by g.C.HasCell.cell ms c.loop-i.cells c.args.changed.now c.loop-i.changed (signals_of c.args.wires.now) (IsAmongBoth queues c.as_slice-others.result.now c.loop-i.i) (IsAmongBoth queues c.as_slice-others.result.now (c.loop-i.i + 1)) it.prim c.advance_holding-any.new.cell c.advance_holding-any.result
+              (other_within_by g.C.HasCell.cell ms c.args.cells.now (signals_of c.args.wires.now) queues c.as_slice-others.result.now (length ms) kinds c.requires.roomy c.requires.guarded (sym c.requires.roomy.whole) c.loop-i.cells (c.loop-i.auto.cells ∙ c.loop-k.auto.cells) c.loop-i.i it at c.loop-i.invariant.1.1.0) (other_out queues c.as_slice-others.result.now c.loop-i.i it at) (other_in queues c.as_slice-others.result.now c.loop-i.i) (other_here queues c.as_slice-others.result.now c.loop-i.i it at)
+              (λ m has none. c.advance_holding-any.ensures.told m (holder_is ms it (kinds.other_at c.loop-i.i it at).0 m has) standing none) c.loop-i.invariant.1.1.1,
+        ),
       ),
     )
 
@@ -106,10 +154,9 @@ pub returns-clause-kept : goal.returns-clause-kept
 returns-clause-kept g c =
     let ms : List Component = c.args.evaluator.now.net.prims in
     all_gone ms (map g.C.HasCell.cell c.args.cells.now) (signals_of c.args.wires.now) c.loop-i.invariant.0 c.as_slice-others.result.now (length ms) c.loop-i.invariant.1.0 c.requires.roomy c.requires.guarded (sym c.requires.roomy.whole)
-    (map g.C.HasCell.cell c.loop-i.cells) c.loop-i.i (same_length g.C.HasCell.cell c.loop-i.cells c.args.cells.now (c.loop-i.auto.cells ∙ c.loop-k.auto.cells)) c.loop-i-test.false refl c.loop-i.invariant.1.1
+    (map g.C.HasCell.cell c.loop-i.cells) c.loop-i.i (same_length g.C.HasCell.cell c.loop-i.cells c.args.cells.now (c.loop-i.auto.cells ∙ c.loop-k.auto.cells)) c.loop-i-test.false refl c.loop-i.invariant.1.1.0
 
 pub returns-clause-noted : goal.returns-clause-noted
 returns-clause-noted g c =
     let ms : List Component = c.args.evaluator.now.net.prims in
-    let kinds : AreKindsTo ms (length ms) c.as_slice-queues.result.now c.as_slice-others.result.now = rw (c.as_slice-queues.ensures, c.as_slice-others.ensures) c.kinds-kinds.ensures in
-    all_noted ms (length ms) c.as_slice-queues.result.now c.as_slice-others.result.now kinds refl (signals_of c.args.wires.now) c.loop-k.changed c.loop-k.k c.loop-k-test.false c.loop-k.invariant.noted
+    all_noted ms (map g.C.HasCell.cell c.loop-i.cells) (length ms) c.loop-i.invariant.0 c.as_slice-others.result.now c.loop-i.invariant.1.0 refl (signals_of c.args.wires.now) c.args.changed.now c.loop-i.changed c.loop-i.i c.loop-i-test.false c.loop-i.invariant.1.1.1

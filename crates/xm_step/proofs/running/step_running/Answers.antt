@@ -6,7 +6,7 @@ use Rattle.xm_model.specs.Lending.{refill-full}
 use Rattle.xm_model.specs.Next.{FitsContent}
 use Rattle.xm_model.specs.Views.{IsNextOf, choice_at, content_at, signals_of}
 use Rattle.xm_step.specs.Inner.Cells.{AllAdvance, AreNoted, KeptAdvance}
-use Rattle.xm_step.proofs.Noting.{shown_after}
+use Rattle.xm_step.proofs.Noting.{shown_after, shown_in_frame}
 use Rattle.xm_plan.specs.Schedule.{ArePlaced}
 use Rattle.xm_step.proofs.Keeping.{still_went}
 use Rattle.xm_step.proofs.Planning.{placed_in}
@@ -16,6 +16,14 @@ use Rattle.xm_step.proofs.running.step_running.Goals as goal
 
 pub solve-requires-clause-shown : goal.solve-requires-clause-shown
 solve-requires-clause-shown c = rw (map-id c.as_slice.result.now, c.as_slice.ensures, c.as_slice-2.ensures, c.as_mut_slice.ensures.value) c.requires.in_step.shown
+
+pub advance_kept-requires-clause-shown : goal.advance_kept-requires-clause-shown
+advance_kept-requires-clause-shown c =
+    let net = c.args.evaluator.now.net in
+    let full = refill-full (length c.args.frame.now.frame.wires.items) c.args.frame.now.frame.wires.items c.solve.new.wires (c.solve.auto.wires ∙ ap length c.as_mut_slice.ensures.value) in
+    let made : IsFrame net (content_at c.args.running.now.slots.items) (choice_at net.prims c.args.choices.now) (signals_of c.solve.new.wires) = rw (map-id c.as_slice.result.now, c.as_slice.ensures) at c.solve.ensures.frame in
+    rw (map-id c.as_mut_slice-2.result.now, c.as_mut_slice-2.ensures.value, c.as_mut_slice-3.ensures.value, c.as_slice-3.ensures, full)
+    (shown_in_frame net (content_at c.args.running.now.slots.items) (choice_at net.prims c.args.choices.now) _ (signals_of c.solve.new.wires) c.args.frame.now.changed.items c.requires.in_step.shown made)
 
 pub advance_kept-requires-clause-guarded : goal.advance_kept-requires-clause-guarded
 advance_kept-requires-clause-guarded c =
@@ -92,7 +100,7 @@ returns-clause-in_step c =
     let went : AllAdvance net.prims c.args.running.now.slots.items c.advance_kept.new.cells (signals_of c.solve.new.wires) = still_went _ _ _ _ c.requires.roomy c.requires.still kept in
     let whole = refill-full (length c.args.running.now.slots.items) c.args.running.now.slots.items c.advance_kept.new.cells went.whole in
     let next : IsNextOf net c.args.running.now.slots.items (signals_of c.solve.new.wires) c.advance_kept.new.cells = next_from_cells net c.args.running.now.slots.items c.advance_kept.new.cells (signals_of c.solve.new.wires) c.requires.roomy.whole went in
-    let noted : AreNoted net.prims c.advance_kept.new.changed (signals_of c.solve.new.wires) = rw (c.as_slice-3.ensures, full) at c.advance_kept.ensures.noted in
+    let noted : AreNoted net.prims c.advance_kept.new.cells c.advance_kept.new.changed (signals_of c.solve.new.wires) = rw (map-id c.advance_kept.new.cells, c.as_slice-3.ensures, full) at c.advance_kept.ensures.noted in
     let many : length c.advance_kept.new.changed ≡ length c.args.frame.now.changed.items = c.advance_kept.auto.changed ∙ ap length c.as_mut_slice-3.ensures.value in
     rw (full, whole, refill-full (length c.args.frame.now.changed.items) c.args.frame.now.changed.items c.advance_kept.new.changed many) (record {
       wires = c.solve.auto.wires ∙ ap length c.as_mut_slice.ensures.value ∙ c.requires.in_step.wires;

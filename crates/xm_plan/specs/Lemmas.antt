@@ -1,0 +1,2 @@
+-- Lemmas that proofs cite, those of crates above among them.
+pub mod Standing
