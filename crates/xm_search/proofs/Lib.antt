@@ -1,2 +1,5 @@
+pub mod Closing
+pub mod Naming
 pub mod Steps
+pub mod Summing
 pub mod Walks
