@@ -1,3 +1,6 @@
+pub mod Closing
+pub mod Naming
 pub mod OfNet
 pub mod Steps
+pub mod Summing
 pub mod Walks

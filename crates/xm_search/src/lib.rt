@@ -1,7 +1,12 @@
-//! The search for proofs that no channel jams: the order of its goals.
+//! The search for proofs that no channel jams.
 #![tactic(auto)]
 
+mod ask;
+mod bounds;
+mod found;
+mod near;
 mod order;
 mod walk;
 
+pub use found::{Candidate, Found, SearchFault};
 pub use order::goal_order;

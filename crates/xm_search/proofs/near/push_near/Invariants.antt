@@ -1,0 +1,10 @@
+use Rattle.std.proofs.Common.{List}
+use Rattle.xm_design.specs.Designed.{Designed}
+use Rattle.xm_flow.specs.ValidLemma.{Lemma}
+use Rattle.xm_lits.specs.declared.literal.Lit.{Lit}
+use Rattle.xm_search.specs.Inner.Named.{AreNamed}
+use Rattle.xm_search.proofs.near.push_near.Given as goal
+
+abbrev pub invariant-loop-row : goal.invariant-loop-row
+invariant-loop-row l = (it : Designed) (lemmas : List Lemma) (path : List Lit) → AreNamed it lemmas path l.shared →
+    AreNamed it lemmas path l.fn.bounds → AreNamed it lemmas path l.bounds
