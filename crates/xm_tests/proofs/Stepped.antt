@@ -24,7 +24,7 @@ push_each {X} P xs y n len each last k x at =
     ]
 
 -- one of the rows, with its far moves, is of the cycle that all are of
-pub cycle_of : {net : Network} {label : ℕ → ℕ} {count : ℕ} {rows : List PartRow} (h : AreRows net label count rows) (p : ℕ) (row : PartRow) (far : List (Option ℕ)) → slice_get rows p ≡ Some row →
+abbrev pub cycle_of : {net : Network} {label : ℕ → ℕ} {count : ℕ} {rows : List PartRow} (h : AreRows net label count rows) (p : ℕ) (row : PartRow) (far : List (Option ℕ)) → slice_get rows p ≡ Some row →
     far ≡ far_moves net label p h.frame → IsCycle net label p (row_of row) far
 cycle_of h p row far at is = record { state = h.state; choices = h.choices; frame = h.frame; is_frame = h.is_frame; row_is = h.of.are p row at; far_is = is }
 
