@@ -4,3 +4,4 @@ pub mod Jobs
 pub mod Logging
 pub mod Posting
 pub mod Standing
+pub mod Taking

@@ -9,6 +9,7 @@ mod laws;
 mod newest;
 mod posting;
 mod row_log;
+mod taking;
 mod two_cycles;
 
 pub use answers::{Posted, Take};
