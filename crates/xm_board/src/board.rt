@@ -5,6 +5,7 @@ use crate::board_core::{BoardCore, Choice};
 use crate::job::{Done, Job};
 use crate::newest::Newest;
 use crate::posting::{note_at, push_at, put_newest, rise_if, tell, turn_at};
+use crate::rounds::clear_all;
 use crate::row_log::RowLog;
 use crate::taking::{make_move_room, make_row_room, take_newest};
 use crate::two_cycles::TwoCycles;
@@ -47,13 +48,15 @@ impl<'a> Model for Board<'a> {
 }
 
 impl<'a> Board<'a> {
-    ghost use Rattle.std.specs.Prelude.{◌≡◌, ◌<◌, ℕ, suc, true, IfOk, IsTrue, OnErr, OnOk};
+    ghost use Rattle.std.specs.Prelude.{◌≡◌, ◌<◌, ◌≤◌, ◌+◌, ℕ, suc, true, IfOk, IsTrue, OnErr, OnOk};
     ghost use Rattle.xm_board.specs.Answers.{IsCurrent, IsTake, job_at};
-    ghost use Rattle.xm_board.specs.Core.{IsCore, IsFloor, IsReady, cycle, given_back, is_out as is_out_in, posted, recalled, stopped, taken};
+    ghost use Rattle.xm_board.specs.Core.{AllDone, IsCore, IsFloor, IsReady, cycle, given_back, is_out as is_out_in, posted, recalled, stopped, taken};
     ghost use Rattle.xm_board.specs.Inner.Jobs.{HasStepped, IsNewest};
     ghost use Rattle.xm_board.specs.Run.{IsNamed};
     ghost use Rattle.xm_model.specs.Component.{Content};
     ghost use Rattle.xm_model.specs.Signals.{Signals};
+    ghost use Rattle.xm_tape.specs.Taped.{cycles_of};
+    ghost use Rattle.xm_board.specs.Core.{rounded};
     ghost use Rattle.xm_board.specs.declared.answers.Posted.{Posted};
     ghost use Rattle.xm_board.specs.declared.answers.Posted.TheVariants as Posted;
 
@@ -258,5 +261,18 @@ impl<'a> Board<'a> {
                 Ok(Take::Job(job))
             }
         }
+    }
+
+    /// Begins the next round, up to a later target. It takes no memory, and a stopped board stays so.
+    pub fn next_round(&mut self, target: u32)
+        requires done { AllDone self.old.core }
+        requires later { self.old.core.target < target }
+        requires near { target ≤ self.old.core.target + 1024 }
+        requires within { target < cycles_of self.old.run.tape }
+        ensures run { self.new.run ≡ self.old.run }
+        ensures core { self.new.core ≡ rounded self.old.core target }
+    {
+        clear_all(self.moves.as_mut_slice());
+        self.core.next_round(target);
     }
 }

@@ -8,6 +8,7 @@ mod job;
 mod laws;
 mod newest;
 mod posting;
+mod rounds;
 mod row_log;
 mod taking;
 mod two_cycles;
