@@ -14,7 +14,7 @@ use std::marker::Model;
 use xm_design::{Design, fits_hold};
 use xm_model::{List, OutOfMemory};
 use xm_order::one_run;
-use xm_parts::{Change, Parts, capacity_law, far_law};
+use xm_parts::{Change, PartRow, Parts, capacity_law, far_law};
 use xm_tape::Tape;
 use xm_trace::Move;
 
@@ -52,7 +52,8 @@ impl<'a> Board<'a> {
     ghost use Rattle.xm_board.specs.Answers.{IsCurrent, IsTake, job_at};
     ghost use Rattle.xm_board.specs.Core.{AllDone, IsCore, IsFloor, IsReady, cycle, given_back, is_out as is_out_in, posted, recalled, stopped, taken};
     ghost use Rattle.xm_board.specs.Inner.Jobs.{HasStepped, IsNewest};
-    ghost use Rattle.xm_board.specs.Run.{IsNamed};
+    ghost use Rattle.xm_board.specs.Run.{AreChanges, IsNamed, row_at};
+    ghost use Rattle.xm_parts.specs.Rows.{row_of};
     ghost use Rattle.xm_model.specs.Component.{Content};
     ghost use Rattle.xm_model.specs.Signals.{Signals};
     ghost use Rattle.xm_tape.specs.Taped.{cycles_of};
@@ -274,5 +275,22 @@ impl<'a> Board<'a> {
     {
         clear_all(self.moves.as_mut_slice());
         self.core.next_round(target);
+    }
+
+    /// Lends the row of part `p` at the floor.
+    pub fn base(&self, p: u32) -> &PartRow
+        requires { p < self.now.core.count }
+        ensures { (floor : ℕ) (s : ℕ → ℕ → Content) (φ : ℕ → Signals) → IsFloor self.now.core floor
+            → IsNamed self.now.run s φ → row_of result.now ≡ row_at self.now.run s φ p floor }
+    {
+        &self.logs.as_slice()[p as usize].base
+    }
+
+    /// Lends what differs in each cycle of part `p` from the floor to its own.
+    pub fn changes(&self, p: u32) -> &[Change]
+        requires { p < self.now.core.count }
+        ensures { (floor : ℕ) → IsFloor self.now.core floor → AreChanges self.now p floor result.now }
+    {
+        self.logs.as_slice()[p as usize].changes.as_slice()
     }
 }

@@ -1,4 +1,4 @@
-use Rattle.std.proofs.Common.{◌≡◌, ◌<◌, ap, List, subst, sym, length, arith}
+use Rattle.std.proofs.Common.{◌<◌, List, subst, sym, length}
 use Rattle.xm_board.proofs.Rounding.{board_rounded}
 use Rattle.xm_board.specs.Core.{AllDone}
 use Rattle.xm_board.specs.Inner.Rounds.{AreCleared}
