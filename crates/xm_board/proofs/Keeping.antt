@@ -35,6 +35,7 @@ set_up_kept design tape parts c out stopped is = record {
   target = is.target;
   begun = is.begun;
   near = is.near;
+  others = is.others;
 }
 
 pub floor_kept : (c : Core) (floor : ℕ) (out : List Bool) (stopped : Bool) → IsFloor c floor → IsFloor (record c { out = out; stopped = stopped }) floor

@@ -146,7 +146,7 @@ after_post c p inside out k = record {
   then : (q : ℕ) → q ≢ p → cycle (posted c p) q ≡ cycle c q
   then q ne = cycle_elsewhere c k.whole p inside q ne
 
-rises : (c : Core) (p q : ℕ) → IsWhole c → p < c.count → cycle c q ≤ cycle (posted c p) q
+pub rises : (c : Core) (p q : ℕ) → IsWhole c → p < c.count → cycle c q ≤ cycle (posted c p) q
 rises c p q whole inside =
     elim (eqb_tells q p) [
       | inl t ↦ (let n : cycle (posted c p) q ≡ suc (cycle c p) = ap (cycle (posted c p)) t.1 ∙ cycle_there c whole p inside in let same : cycle c q ≡ cycle c p = ap (cycle c) t.1 in omega arith)

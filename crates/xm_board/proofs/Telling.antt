@@ -1,8 +1,9 @@
 -- What the steps of a post make of what a board keeps.
-use Rattle.std.proofs.Common.{◌≡◌, ◌≢◌, ℕ, zero, suc, ◌+◌, ◌<◌, ◌≤◌, Bool, true, false, List, [], ◌∷◌, ◌++◌, length, map, take, set, get_or, Some, slice_get, refl, ap, sym, ◌∙◌, subst, inl, inr, arith, append_assoc}
+use Rattle.std.proofs.Common.{◌≡◌, ◌≢◌, ℕ, zero, suc, ◌+◌, ◌<◌, ◌≤◌, Bool, List, [], ◌∷◌, ◌++◌, length, map, take, set, get_or, Some, slice_get, refl, ap, sym, ◌∙◌, subst, inl, inr, arith, append_assoc}
 use Rattle.std.proofs.lemmas.Bool.{cases_lt}
 use Rattle.std.proofs.lemmas.Bool.Decides.{eqb_tells}
-use Rattle.std.proofs.lemmas.Option.{same_Some, slice_get-get_or, slice_get-map, slice_get_within}
+use Rattle.std.proofs.lemmas.Option.{same_Some, slice_get-get_or, slice_get-map}
+use Rattle.std.proofs.lemmas.List.{append-nil}
 use Rattle.xm_board.proofs.Keeping.{is_at}
 use Rattle.xm_board.specs.Inner.Posting.{HasHeard, IsRisen, IsTold, moves_on}
 use Rattle.xm_board.specs.declared.row_log.RowLog.{RowLog}
@@ -20,7 +21,6 @@ use Rattle.xm_trace.specs.declared.trace.Move.{Move}
 
 module _ (old now : List RowLog) (p : ℕ) (log d : RowLog) (inside : p < length now) (here : IsRisen (get_or now p d) log) (rest : (q : ℕ) → p ≤ q → slice_get now q ≡ slice_get old q)
   where
-
     pub risen_more : ((q : ℕ) (was x : RowLog) → q < p → slice_get old q ≡ Some was → slice_get now q ≡ Some x → IsRisen was x) → (q : ℕ) (was x : RowLog) → q < p + 1 → slice_get old q ≡ Some was → slice_get (set now p log) q ≡ Some x → IsRisen was x
     risen_more so_far q was x h at_old at_new =
         elim (eqb_tells q p) [
@@ -37,7 +37,7 @@ module _ (old now : List RowLog) (p : ℕ) (log d : RowLog) (inside : p < length
 
 -- ---- moves that come
 
-moves_on-append : (φ : Signals) (t : ℕ) (cs ds : List ℕ) → moves_on φ t (cs ++ ds) ≡ moves_on φ t cs ++ moves_on φ t ds
+pub moves_on-append : (φ : Signals) (t : ℕ) (cs ds : List ℕ) → moves_on φ t (cs ++ ds) ≡ moves_on φ t cs ++ moves_on φ t ds
 moves_on-append φ t [] ds = refl
 moves_on-append φ t (c ∷ cs) ds = ap (λ (ms : List Move). moved_on t c (move φ c) ++ ms) (moves_on-append φ t cs ds) ∙ sym (append_assoc (moved_on t c (move φ c)) (moves_on φ t cs) (moves_on φ t ds))
 
@@ -45,10 +45,6 @@ pub taken_next : {X : Type 0} (xs : List X) (k : ℕ) (x : X) → slice_get xs k
 taken_next [] k x e = absurd cc
 taken_next (y ∷ ys) zero x e = let same : y ≡ x = same_Some _ _ e in ap (λ z. z ∷ []) same
 taken_next (y ∷ ys) (suc k) x e = ap (λ zs. y ∷ zs) (taken_next ys k x e)
-
-no_more : (ms : List Move) → ms ++ [] ≡ ms
-no_more [] = refl
-no_more (m ∷ ms) = ap (λ (xs : List Move). m ∷ xs) (no_more ms)
 
 pub moves_next : (φ : Signals) (t : ℕ) (channels : List ℕ) (wires : List Wire) (k c : ℕ) (w : Wire) (before after start : List Move) → slice_get channels k ≡ Some c → slice_get wires k ≡ Some w → wires ≡ map (wire_of φ) channels → before ≡ start ++ moves_on φ t (take k channels) → after ≡ before ++ moved_on t c (only_if w.ready w.offer) → after ≡ start ++ moves_on φ t (take (k + 1) channels)
 moves_next φ t channels wires k c w before after start at there are so_far is =
@@ -58,7 +54,7 @@ moves_next φ t channels wires k c w before after start at there are so_far is =
     let one : moved_on t c (only_if w.ready w.offer) ≡ moved_on t c (move φ c) = ap (λ (v : Wire). moved_on t c (only_if v.ready v.offer)) wire in
     let next : suc k ≡ k + 1 = omega arith in
     let last : moves_on φ t (take (k + 1) channels) ≡ moves_on φ t (take k channels) ++ moved_on t c (move φ c) =
-    ap (λ n. moves_on φ t (take n channels)) (sym next) ∙ (ap (moves_on φ t) (taken_next channels k c at) ∙ (moves_on-append φ t (take k channels) (c ∷ []) ∙ ap (λ (ms : List Move). moves_on φ t (take k channels) ++ ms) (no_more (moved_on t c (move φ c))))) in
+    ap (λ n. moves_on φ t (take n channels)) (sym next) ∙ (ap (moves_on φ t) (taken_next channels k c at) ∙ (moves_on-append φ t (take k channels) (c ∷ []) ∙ ap (λ (ms : List Move). moves_on φ t (take k channels) ++ ms) (append-nil (moved_on t c (move φ c))))) in
     is ∙ (ap (λ (ms : List Move). ms ++ moved_on t c (only_if w.ready w.offer)) so_far ∙ (ap (λ (ms : List Move). (start ++ moves_on φ t (take k channels)) ++ ms) one ∙ (append_assoc start (moves_on φ t (take k channels)) (moved_on t c (move φ c)) ∙ ap (λ (ms : List Move). start ++ ms) (sym last))))
 
 -- ---- what is told
@@ -75,7 +71,6 @@ told_twice net label p q level a b c one two = record {
 
 module _ (net : Network) (label : ℕ → ℕ) (p : ℕ) (wires : List Wire) (level : ℕ → Bool) (old now : List TwoCycles) (near : List ℕ) (k q : ℕ) (it d : TwoCycles) (at : slice_get near k ≡ Some q) (inside : q < length now) (told : IsTold net label p q (level q) (get_or now q d) it) (heard : HasHeard net label p q wires (level q) it)
   where
-
     pub told_more : ((r : ℕ) (was x : TwoCycles) → slice_get old r ≡ Some was → slice_get now r ≡ Some x → IsTold net label p r (level r) was x) → (r : ℕ) (was x : TwoCycles) → slice_get old r ≡ Some was → slice_get (set now q it) r ≡ Some x → IsTold net label p r (level r) was x
     told_more so_far r was x at_old at_new =
         elim (eqb_tells r q) [

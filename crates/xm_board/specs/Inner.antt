@@ -3,4 +3,6 @@ pub mod Choosing
 pub mod Jobs
 pub mod Logging
 pub mod Posting
+pub mod Rounds
 pub mod Standing
+pub mod Taking

@@ -1,11 +1,13 @@
 -- The run that a board names, and the rows of its parts.
-use Rattle.std.specs.Prelude.{ℕ, List}
-use Rattle.xm_board.specs.Core.{Core}
+use Rattle.std.specs.Prelude.{◌≡◌, ℕ, suc, ◌+◌, List, Some, length, slice_get}
+use Rattle.xm_board.specs.Core.{Core, cycle}
 use Rattle.xm_model.specs.Component.{Content}
 use Rattle.xm_model.specs.Net.{Network}
 use Rattle.xm_model.specs.Signals.{Signals}
+use Rattle.xm_parts.specs.Changing.{IsChange}
 use Rattle.xm_parts.specs.Kept.{label_at}
 use Rattle.xm_parts.specs.Projection.{Row, projection}
+use Rattle.xm_parts.specs.declared.changes.Change.{Change}
 use Rattle.xm_tape.specs.Taped.{Taped}
 use Rattle.xm_trace.specs.Runs.{IsRunOf}
 
@@ -33,3 +35,9 @@ IsNamed run s φ = IsRunOf run.net run.tape s φ
 -- what part p has of cycle t
 abbrev pub row_at : RunName → (ℕ → ℕ → Content) → (ℕ → Signals) → ℕ → ℕ → Row
 row_at run s φ p t = projection run.net (label_at run.labels) p (s t) (φ t)
+
+-- what differs in each cycle of part p, from the floor to its own
+pub record AreChanges (b : Boarded) (p floor : ℕ) (changes : List Change) : Type 0 where
+  pub whole : length changes + floor ≡ cycle b.core p
+  pub each : (k : ℕ) (c : Change) → slice_get changes k ≡ Some c → (s : ℕ → ℕ → Content) (φ : ℕ → Signals) →
+      IsNamed b.run s φ → IsChange (row_at b.run s φ p (floor + k)) (row_at b.run s φ p (floor + suc k)) c

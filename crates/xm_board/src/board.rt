@@ -1,15 +1,20 @@
 //! The board: how far each part is, and what is kept of it.
 
-use crate::answers::Posted;
-use crate::board_core::BoardCore;
-use crate::job::Job;
+use crate::answers::{Posted, Take};
+use crate::board_core::{BoardCore, Choice};
+use crate::job::{Done, Job};
 use crate::newest::Newest;
+use crate::posting::{note_at, push_at, put_newest, rise_if, tell, turn_at};
+use crate::rounds::clear_all;
 use crate::row_log::RowLog;
+use crate::taking::{make_move_room, make_row_room, take_newest};
 use crate::two_cycles::TwoCycles;
+use std::alloc::Global;
 use std::marker::Model;
-use xm_design::Design;
+use xm_design::{Design, fits_hold};
 use xm_model::{List, OutOfMemory};
-use xm_parts::Parts;
+use xm_order::one_run;
+use xm_parts::{Change, PartRow, Parts, capacity_law, far_law};
 use xm_tape::Tape;
 use xm_trace::Move;
 
@@ -43,9 +48,16 @@ impl<'a> Model for Board<'a> {
 }
 
 impl<'a> Board<'a> {
-    ghost use Rattle.std.specs.Prelude.{◌≡◌, ◌<◌, IsTrue};
-    ghost use Rattle.xm_board.specs.Answers.{IsCurrent};
-    ghost use Rattle.xm_board.specs.Core.{IsCore, IsFloor, cycle, given_back, is_out as is_out_in, recalled, stopped};
+    ghost use Rattle.std.specs.Prelude.{◌≡◌, ◌<◌, ◌≤◌, ◌+◌, ℕ, suc, true, IfOk, IsTrue, OnErr, OnOk};
+    ghost use Rattle.xm_board.specs.Answers.{IsCurrent, IsTake, job_at};
+    ghost use Rattle.xm_board.specs.Core.{AllDone, IsCore, IsFloor, IsReady, cycle, given_back, is_out as is_out_in, posted, recalled, stopped, taken};
+    ghost use Rattle.xm_board.specs.Inner.Jobs.{HasStepped, IsNewest};
+    ghost use Rattle.xm_board.specs.Run.{AreChanges, IsNamed, row_at};
+    ghost use Rattle.xm_parts.specs.Rows.{row_of};
+    ghost use Rattle.xm_model.specs.Component.{Content};
+    ghost use Rattle.xm_model.specs.Signals.{Signals};
+    ghost use Rattle.xm_tape.specs.Taped.{cycles_of};
+    ghost use Rattle.xm_board.specs.Core.{rounded};
     ghost use Rattle.xm_board.specs.declared.answers.Posted.{Posted};
     ghost use Rattle.xm_board.specs.declared.answers.Posted.TheVariants as Posted;
 
@@ -128,5 +140,157 @@ impl<'a> Board<'a> {
         self.newest.as_mut_slice()[part as usize] = Some(newest);
         self.core.give_back(part);
         Posted::Taken
+    }
+
+    /// Takes part `p` in, one cycle on.
+    fn put_in(&mut self, p: u32, newest: Newest<'a>, change: Change)
+        requires part { p < self.old.core.count }
+        requires out { is_out_in self.old.core p ≡ true }
+        requires newest { IsNewest self.old.run p (suc (cycle self.old.core p)) newest }
+        requires stands { (s : ℕ → ℕ → Content) (φ : ℕ → Signals) → IsNamed self.old.run s φ
+            → HasStepped self.old.run s φ p (cycle self.old.core p) newest change }
+        ensures run { self.new.run ≡ self.old.run }
+        ensures core { self.new.core ≡ posted self.old.core p }
+    {
+        one_run();
+        fits_hold();
+        capacity_law();
+        self.design.is_designed();
+        self.parts.count();
+        self.core.is_core();
+        let t = self.core.cycle(p) + 1;
+        let wires = newest.row.wires.as_slice();
+        push_at(&mut self.logs, p, change);
+        note_at(&mut self.moves, p, t, self.parts.channels(p), wires);
+        turn_at(&mut self.far, p);
+        tell(
+            self.design,
+            self.parts,
+            &self.core,
+            p,
+            t,
+            &newest.row,
+            self.far.as_mut_slice(),
+        );
+        put_newest(&mut self.newest, p, newest);
+        self.core.post(p);
+        let floor = self.core.floor();
+        rise_if(&mut self.logs, self.floor < floor);
+        self.floor = floor;
+    }
+
+    /// Takes in what was done of a job. No memory is taken.
+    pub fn post(&mut self, done: Done<'a>) -> Posted
+        requires { done.run ≡ self.old.run }
+        ensures run { self.new.run ≡ self.old.run }
+        ensures taken { result ≡ Posted.Taken → IsCurrent self.old.core done.entry.part done.entry.cycle
+            × (self.new.core ≡ posted self.old.core done.entry.part) }
+        ensures stale { result ≡ Posted.Stale → (IsCurrent self.old.core done.entry.part done.entry.cycle → ⊥)
+            × (self.new.core ≡ self.old.core) }
+    {
+        let Done {
+            design: _design,
+            parts: _parts,
+            part,
+            cycle,
+            newest,
+            change,
+        } = done;
+        if !self.is_current(part, cycle) {
+            return Posted::Stale;
+        }
+        self.put_in(part, newest, change);
+        Posted::Taken
+    }
+
+    /// Hands out part `p`.
+    fn hand_out(&mut self, alloc: Global, p: u32) -> Result<Job<'a>, OutOfMemory>
+        requires { IsReady self.old.core p }
+        ensures run { self.new.run ≡ self.old.run }
+        ensures job { IfOk result (λ job. job ≡ job_at self.old p) }
+        ensures ok { OnOk result (self.new.core ≡ taken self.old.core p) }
+        ensures err { OnErr result (self.new.core ≡ self.old.core) }
+    {
+        one_run();
+        far_law();
+        self.design.is_designed();
+        self.parts.count();
+        self.core.is_core();
+        let cycles = self.tape.cycles();
+        let cycle = self.core.cycle(p);
+        let room = self.parts.channels(p).len() as u32;
+        make_row_room(&mut self.logs, p)?;
+        make_move_room(&mut self.moves, p, room)?;
+        let change = Change::new(alloc, self.design, self.parts, p)?;
+        let log = &self.logs.as_slice()[p as usize];
+        let mut newest = take_newest(
+            alloc,
+            self.design,
+            self.tape,
+            self.parts,
+            &mut self.newest,
+            log,
+            p,
+            cycle,
+        )?;
+        let around = &self.far.as_slice()[p as usize];
+        newest.far.put(&around.now);
+        self.core.take(p);
+        Ok(Job {
+            design: self.design,
+            parts: self.parts,
+            part: p,
+            cycle,
+            newest,
+            change,
+        })
+    }
+
+    /// Hands out the ready part of the least cycle, the least among equals; else tells that the board is stopped, that
+    /// all is done, or for which part to wait. All memory that the step and the post need is taken here.
+    pub fn take(&mut self, alloc: Global) -> Result<Take<Job<'a>>, OutOfMemory>
+        ensures run { self.new.run ≡ self.old.run }
+        ensures take { IfOk result (λ take. IsTake self.old take self.new.core) }
+        ensures err { OnErr result (self.new.core ≡ self.old.core) }
+    {
+        match self.core.choice() {
+            Choice::Stopped => Ok(Take::Stopped),
+            Choice::Finished => Ok(Take::Finished),
+            Choice::NotYet(p) => Ok(Take::NotYet(p)),
+            Choice::Job(p) => {
+                let job = self.hand_out(alloc, p)?;
+                Ok(Take::Job(job))
+            }
+        }
+    }
+
+    /// Begins the next round, up to a later target. It takes no memory, and a stopped board stays so.
+    pub fn next_round(&mut self, target: u32)
+        requires done { AllDone self.old.core }
+        requires later { self.old.core.target < target }
+        requires near { target ≤ self.old.core.target + 1024 }
+        requires within { target < cycles_of self.old.run.tape }
+        ensures run { self.new.run ≡ self.old.run }
+        ensures core { self.new.core ≡ rounded self.old.core target }
+    {
+        clear_all(self.moves.as_mut_slice());
+        self.core.next_round(target);
+    }
+
+    /// Lends the row of part `p` at the floor.
+    pub fn base(&self, p: u32) -> &PartRow
+        requires { p < self.now.core.count }
+        ensures { (floor : ℕ) (s : ℕ → ℕ → Content) (φ : ℕ → Signals) → IsFloor self.now.core floor
+            → IsNamed self.now.run s φ → row_of result.now ≡ row_at self.now.run s φ p floor }
+    {
+        &self.logs.as_slice()[p as usize].base
+    }
+
+    /// Lends what differs in each cycle of part `p` from the floor to its own.
+    pub fn changes(&self, p: u32) -> &[Change]
+        requires { p < self.now.core.count }
+        ensures { (floor : ℕ) → IsFloor self.now.core floor → AreChanges self.now p floor result.now }
+    {
+        self.logs.as_slice()[p as usize].changes.as_slice()
     }
 }

@@ -8,7 +8,9 @@ mod job;
 mod laws;
 mod newest;
 mod posting;
+mod rounds;
 mod row_log;
+mod taking;
 mod two_cycles;
 
 pub use answers::{Posted, Take};

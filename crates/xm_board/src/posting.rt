@@ -64,12 +64,7 @@ pub fn note_at(moves: &mut List<List<Move>>, p: u32, t: u32, channels: &[u32], w
         → length ms.items + length channels.now ≤ ms.room }
     ensures { AreNotedAt moves.old.items p t channels.now wires.now moves.new.items }
 {
-    note_moves(
-        &mut moves.as_mut_slice()[p as usize],
-        t,
-        channels,
-        wires,
-    );
+    note_moves(&mut moves.as_mut_slice()[p as usize], t, channels, wires);
 }
 
 fn turn(it: &mut TwoCycles)

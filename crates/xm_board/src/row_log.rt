@@ -1,6 +1,6 @@
 //! The rows of a part from one cycle on.
 
-ghost use Rattle.std.specs.Prelude.{◌≡◌, ◌<◌, ◌∷◌, ◌++◌, [], ℕ, drop, length, suc, IfOk};
+ghost use Rattle.std.specs.Prelude.{◌≡◌, ◌<◌, ◌≤◌, ◌∷◌, ◌++◌, [], ℕ, drop, length, suc, IfOk, OnOk};
 ghost use Rattle.xm_board.specs.Inner.Logging.{IsLog, IsLogOf, IsRoomyLog};
 ghost use Rattle.xm_model.specs.Net.{Network};
 ghost use Rattle.xm_parts.specs.Projection.{Row};
@@ -28,6 +28,16 @@ impl RowLog {
             base,
             changes: List::new(alloc),
         }
+    }
+
+    /// Makes room for one more cycle. On refusal the log stays.
+    pub fn make_room(&mut self) -> Result<(), OutOfMemory>
+        ensures base { self.new.base ≡ self.old.base }
+        ensures changes { self.new.changes.items ≡ self.old.changes.items }
+        ensures room { self.old.changes.room ≤ self.new.changes.room }
+        ensures ok { OnOk result (length self.new.changes.items < self.new.changes.room) }
+    {
+        self.changes.reserve(1)
     }
 
     /// Appends what differs in the next cycle. There is room for it.

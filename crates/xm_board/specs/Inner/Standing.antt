@@ -1,5 +1,5 @@
 -- When a board stands: what it keeps of each part is that of its run, from the floor to the part's own cycle.
-use Rattle.std.specs.Prelude.{◌≡◌, ℕ, suc, ◌+◌, ◌-◌, ◌<◌, ◌≤◌, ◌↔◌, true, List, filter, length, Option, Some, slice_get}
+use Rattle.std.specs.Prelude.{◌≡◌, ℕ, suc, ◌+◌, ◌-◌, ◌<◌, ◌≤◌, ◌↔◌, ◌≢◌, true, List, filter, length, Option, Some, slice_get}
 use Rattle.xm_board.specs.Core.{Core, IsFloor, cycle, is_near, is_out}
 use Rattle.xm_board.specs.Inner.Jobs.{IsNewest, run_in}
 use Rattle.xm_board.specs.Inner.Logging.{IsLogOf}
@@ -75,6 +75,7 @@ pub record IsSetUp (design : Designed) (tape : Taped) (parts : Division) (c : Co
   pub begun : (p : ℕ) → p < c.count → c.first ≤ suc (cycle c p)
   pub near : (p q : ℕ) → p < c.count →
       (is_near c p q ≡ true) ↔ AreNeighbours design.net (label_at parts.labels) p q
+  pub others : (p q : ℕ) → p < c.count → AreNeighbours design.net (label_at parts.labels) p q → (q < c.count) × (q ≢ p)
 
 pub record IsBoard (design : Designed) (tape : Taped) (parts : Division) (c : Core) (floor : ℕ) (logs : List RowLog)
     (moves : List (ListView Move)) (far : List TwoCycles) (newest : List (Option Newest)) : Type 0 where

@@ -1,4 +1,4 @@
-use Rattle.std.proofs.Common.{◌≡◌, ◌<◌, ℕ, length, get_or, nat_eq, Some, slice_get, arith, ◌∙◌, subst, sym, ap}
+use Rattle.std.proofs.Common.{◌≡◌, ◌<◌, ℕ, length, get_or, nat_eq, arith, ◌∙◌, subst, sym, ap}
 use Rattle.std.proofs.lemmas.Option.{slice_get-get_or, slice_get_within}
 use Rattle.xm_board.proofs.Telling.{heard_more, told_more}
 use Rattle.xm_board.specs.Core.{cycle}
@@ -6,7 +6,7 @@ use Rattle.xm_board.specs.Inner.Posting.{HasHeard, IsTold}
 use Rattle.xm_design.specs.Designed.{Designed}
 use Rattle.xm_model.specs.Net.{Network}
 use Rattle.xm_parts.specs.Kept.{label_at}
-use Rattle.xm_parts.specs.Partition.{AreNeighbours, cuts_in}
+use Rattle.xm_parts.specs.Partition.{AreNeighbours}
 use Rattle.xm_board.proofs.posting.tell.Goals as goal
 
 pub bounds-all-q : goal.bounds-all-q
