@@ -1,5 +1,4 @@
 mod Checked
-mod Fronts
 mod OneAnswer
 mod OneBasis
 mod OneColours

@@ -136,7 +136,10 @@ fn other_words_are_refused(rt: HostRuntime) {
 const TAKEN_BY_THREE: [(&str, [Option<u64>; 3]); 4] = [
     ("--parts 2 --workers=3", [Some(2), Some(3), None]),
     ("--workers=3 --parts 2", [Some(2), Some(3), None]),
-    ("--watch 0 --parts 1 --workers 64", [Some(1), Some(64), Some(0)]),
+    (
+        "--watch 0 --parts 1 --workers 64",
+        [Some(1), Some(64), Some(0)],
+    ),
     (
         "--watch=10000 --parts=64 --workers 1",
         [Some(64), Some(1), Some(10_000)],
@@ -144,7 +147,12 @@ const TAKEN_BY_THREE: [(&str, [Option<u64>; 3]); 4] = [
 ];
 
 /// Words that the three options refuse, of which the first two are wanted.
-const REFUSED_BY_THREE: [&str; 4] = ["", "--parts 2", "--watch 1 --workers 2", "--parts 0 --workers 1"];
+const REFUSED_BY_THREE: [&str; 4] = [
+    "",
+    "--parts 2",
+    "--watch 1 --workers 2",
+    "--parts 0 --workers 1",
+];
 
 fn all_are_refused_by_three(alloc: Global) -> bool {
     REFUSED_BY_THREE

@@ -1,4 +1,4 @@
-use Rattle.xm_commands.proofs.Fronts.{appends_same, front_same, nothing_front, on_err, on_err_goes, on_ok_goes}
+use Rattle.xm_io.specs.Lemmas.Fronts.{appends_same, front_same, nothing_front, on_err, on_err_goes, on_ok_goes}
 use Rattle.xm_commands.proofs.Rounds.{lines_alone}
 use Rattle.xm_commands.proofs.running.write_round.Goals as goal
 

@@ -1,6 +1,6 @@
 use Rattle.std.proofs.Common.{◌≡◌, ◌+◌, ◌-◌, ◌++◌, ◌∙◌, ℕ, List, ap, arith, refl, subst, sym}
 use Rattle.std.proofs.lemmas.List.{append-nil}
-use Rattle.xm_commands.proofs.Fronts.{appends_nothing, appends_same, front_more, front_of, on_err, on_err_goes, on_ok_goes}
+use Rattle.xm_io.specs.Lemmas.Fronts.{appends_nothing, appends_same, front_more, front_of, on_err, on_err_goes, on_ok_goes}
 use Rattle.xm_commands.proofs.Rounds.{are_still, ended, joined}
 use Rattle.xm_commands.proofs.running.write_rounds.Goals as goal
 use Rattle.xm_io.specs.Lemmas.Appending.{Appends-then}
