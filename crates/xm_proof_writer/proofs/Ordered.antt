@@ -60,13 +60,16 @@ GoesOn before (p ∷ ps) = rises_to before p ≡ true
 are_parts : (n : ℕ) (before : Option Part) (ps : List Part) → n < 2 ^ 32 → RiseByFlow ps → All (λ (p : Part). p.flow < n) ps → All (λ (p : Part). Fits128 p.factor) ps → GoesOn before ps → AreParts before ps
 are_parts n before [] small up high fit on = tt
 are_parts n before (p ∷ ps) small up high fit on =
-    let here = All-head (λ (q : Part). q.flow < n) p ps high in
-    (record { flow = omega arith; factor = All-head (λ (q : Part). Fits128 q.factor) p ps fit }, on,
-    are_parts n (Some p) ps small (tail p ps up) (All-tail (λ (q : Part). q.flow < n) p ps high) (All-tail (λ (q : Part). Fits128 q.factor) p ps fit) (next p ps up))
+    let here = All-head (λ (q : Part). q.flow < n) p ps high in (
+      record { flow = omega arith; factor = All-head (λ (q : Part). Fits128 q.factor) p ps fit },
+      on,
+      are_parts n (Some p) ps small (tail p ps up) (All-tail (λ (q : Part). q.flow < n) p ps high) (All-tail (λ (q : Part). Fits128 q.factor) p ps fit) (next p ps up),
+    )
   where
     tail : (p : Part) (ps : List Part) → RiseByFlow (p ∷ ps) → RiseByFlow ps
     tail p [] up = tt
     tail p (q ∷ ps) up = up.1
+
     next : (p : Part) (ps : List Part) → RiseByFlow (p ∷ ps) → GoesOn (Some p) ps
     next p [] up = tt
     next p (q ∷ ps) up = lt-ltb p.flow q.flow up.0

@@ -14,5 +14,4 @@ pub fn names_tell()
 /// The invariants that an elimination leaves can be written.
 pub fn invariants_can_be_written()
     ensures { InvariantsCanBeWritten }
-{
-}
+{}
