@@ -1,6 +1,7 @@
 -- Ordered lemmas over the flow rows of a design can be written.
-use Rattle.std.proofs.Common.{◌≡◌, ℕ, zero, suc, ◌+◌, ◌^◌, ◌<◌, ◌≤◌, List, [], ◌∷◌, All, length, length-map, map, Option, Some, None, tt, refl, true, arith}
+use Rattle.std.proofs.Common.{◌≡◌, ℕ, zero, suc, ◌+◌, ◌^◌, ◌<◌, ◌≤◌, List, [], ◌∷◌, All, length, map, Option, Some, None, refl, true, arith}
 use Rattle.std.proofs.lemmas.Bool.{lt-ltb}
+use Rattle.std.proofs.lemmas.List.{length-map}
 use Rattle.std.proofs.lemmas.List.Elements.{All-head, All-map, All-tail}
 use Rattle.xm_colours.specs.Family.{Rises}
 use Rattle.xm_design.specs.Designed.{Designed}
@@ -18,7 +19,7 @@ use Rattle.xm_rows.specs.declared.row.Entry.{Entry}
 
 -- rising numbers between two are no more than lie there
 few_from : (xs : List ℕ) (m n : ℕ) → Rises xs → All (λ x. m ≤ x) xs → All (λ x. x < n) xs → m ≤ n → length xs + m ≤ n
-few_from [] m n up low high h = h
+few_from [] m n up low high h = omega arith
 few_from (x ∷ []) m n up low high h = let above = All-head (λ y. m ≤ y) x [] low in let under = All-head (λ y. y < n) x [] high in omega arith
 few_from (x ∷ y ∷ ys) m n up low high h =
     let above = All-head (λ z. m ≤ z) x (y ∷ ys) low in
