@@ -280,17 +280,25 @@ fn json_is_at_most_127_deep(rt: HostRuntime) {
     assert!(rt; too_deep_is_refused(rt.alloc()));
 }
 
+/// What is changed in the document of six primitives: a name, what a source offers, what a queue begins with, its
+/// capacity, and a map of colours.
+const NAME: &str = r#""name":"S""#;
+
+const OFFERED: &str = r#"["ack","req"]},{"#;
+
+const INITIAL: &str = r#""initial":["ack"]"#;
+
+const CAPACITY: &str = r#""capacity":2"#;
+
+const MAP: &str = r#"{"req":"ack"}"#;
+
 /// What is changed into what in the document of six primitives, and the answer.
 const CHANGES: [(&str, &str, Answer); 22] = [
     (r#""version":2"#, r#""version":3"#, Read),
-    (r#""name":"S""#, r#""name":"S.1""#, Read),
+    (NAME, r#""name":"S.1""#, Read),
+    (NAME, r#""name":"abcdefghijklmnopqrstuvwxyz012345""#, Read),
     (
-        r#""name":"S""#,
-        r#""name":"abcdefghijklmnopqrstuvwxyz012345""#,
-        Read,
-    ),
-    (
-        r#""name":"S""#,
+        NAME,
         r#""name":"abcdefghijklmnopqrstuvwxyz0123456""#,
         BadName("net.0.name"),
     ),
@@ -302,47 +310,27 @@ const CHANGES: [(&str, &str, Answer); 22] = [
         SameName("colours.1"),
     ),
     (r#"["req","ack"]"#, r#"["r.q","ack"]"#, BadName("colours.0")),
+    (OFFERED, r#"["ack","ack"]},{"#, SameName("net.0.colours.1")),
     (
-        r#"["ack","req"]},{"#,
-        r#"["ack","ack"]},{"#,
-        SameName("net.0.colours.1"),
-    ),
-    (
-        r#"["ack","req"]},{"#,
+        OFFERED,
         r#"["ack","nak"]},{"#,
         UnknownColour("net.0.colours.1"),
     ),
+    (OFFERED, r#"[]},{"#, Limit(Which::SourceColours, 0)),
     (
-        r#"["ack","req"]},{"#,
-        r#"[]},{"#,
-        Limit(Which::SourceColours, 0),
-    ),
-    (
-        r#""initial":["ack"]"#,
+        INITIAL,
         r#""initial":["nak"]"#,
         UnknownColour("net.1.initial.0"),
     ),
     (
-        r#""initial":["ack"]"#,
+        INITIAL,
         r#""initial":["ack","req","ack"]"#,
         Limit(Which::Initial, 3),
     ),
-    (r#""capacity":2"#, r#""capacity":4096"#, Read),
-    (
-        r#""capacity":2"#,
-        r#""capacity":4097"#,
-        Limit(Which::Capacity, 4097),
-    ),
-    (
-        r#"{"req":"ack"}"#,
-        r#"{"nak":"ack"}"#,
-        UnknownColour("net.2.map"),
-    ),
-    (
-        r#"{"req":"ack"}"#,
-        r#"{"req":"nak"}"#,
-        UnknownColour("net.2.map.req"),
-    ),
+    (CAPACITY, r#""capacity":4096"#, Read),
+    (CAPACITY, r#""capacity":4097"#, Limit(Which::Capacity, 4097)),
+    (MAP, r#"{"nak":"ack"}"#, UnknownColour("net.2.map")),
+    (MAP, r#"{"req":"nak"}"#, UnknownColour("net.2.map.req")),
     (
         r#""to_a":["ack"]"#,
         r#""to_a":["nak"]"#,
@@ -382,9 +370,9 @@ fn each_change_of_a_document_has_its_first_fault(rt: HostRuntime) {
 
 const BAD_NAME: Change = (r#""name":"L""#, r#""name":"L!""#);
 
-const UNKNOWN: Change = (r#""initial":["ack"]"#, r#""initial":["nak"]"#);
+const UNKNOWN: Change = (INITIAL, r#""initial":["nak"]"#);
 
-const NO_ROOM: Change = (r#""capacity":2"#, r#""capacity":0"#);
+const NO_ROOM: Change = (CAPACITY, r#""capacity":0"#);
 
 const NO_TARGET: Change = (r#""in":"f""#, r#""in":"g""#);
 

@@ -1,7 +1,16 @@
-//! Texts that are just what is expected, and the words of a line.
+//! Texts of pieces, texts that are just what is expected, and the words of a line.
 
 use std::alloc::Global;
 use xm_model::{List, OutOfMemory, Text};
+
+/// The pieces, one behind another.
+pub fn joined(alloc: Global, pieces: &[&str]) -> Result<Text, OutOfMemory> {
+    let mut text = Text::new(alloc);
+    for piece in pieces {
+        text.push_bytes(piece.as_bytes())?;
+    }
+    Ok(text)
+}
 
 /// Whether the text was made, and is just this.
 pub fn is_text(text: Result<Text, OutOfMemory>, expected: &str) -> bool {

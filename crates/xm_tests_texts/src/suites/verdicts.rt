@@ -1,9 +1,9 @@
 //! The verdicts that `verify` writes: each reason, by a proof that is broken there alone.
 
 use super::commands::{Answer, SOUND, is_answered};
+use super::helpers::joined;
 use super::proofs::{DIAMOND, WORKED};
 use std::alloc::Global;
-use xm_model::{OutOfMemory, Text};
 
 /// The stream of a queue of one packet, up to the lemmas of its proof.
 const STREAM_TO_LEMMAS: &str =
@@ -116,13 +116,8 @@ const OTHER_GOALS: [(&str, &str); 4] = [
 const EDITS: [(&str, &str, &str); 4] = [
     ("", "", "yes\n"),
     (
-        r#"{"kids":2,"on":["Dead","c3","req"],"rule":"P4"},
-    {"kids":1,"on":["Idle","c4","req"],"rule":"I2"},
-    {"sum":[["lemma",0,"-1"],["path",["Has","Qd","req"],"1"],["path",["Lacks","Qt","req"],"1"]]},
-    {"cite":0}]}"#,
-        r#"{"kids":1,"on":["Dead","c3","req"],"rule":"P4"},
-    {"kids":1,"on":["Idle","c4","req"],"rule":"I2"},
-    {"sum":[["lemma",0,"-1"],["path",["Has","Qd","req"],"1"],["path",["Lacks","Qt","req"],"1"]]}]}"#,
+        r#"{"kids":2,"on":["Dead","c3","req"],"rule":"P4"},{"kids":1,"on":["Idle","c4","req"],"rule":"I2"},{"sum":[["lemma",0,"-1"],["path",["Has","Qd","req"],"1"],["path",["Lacks","Qt","req"],"1"]]},{"cite":0}]}"#,
+        r#"{"kids":1,"on":["Dead","c3","req"],"rule":"P4"},{"kids":1,"on":["Idle","c4","req"],"rule":"I2"},{"sum":[["lemma",0,"-1"],["path",["Has","Qd","req"],"1"],["path",["Lacks","Qt","req"],"1"]]}]}"#,
         "no goals.1.1 alternatives\n",
     ),
     (
@@ -137,14 +132,6 @@ const EDITS: [(&str, &str, &str); 4] = [
     ),
 ];
 
-fn joined(alloc: Global, parts: [&str; 5]) -> Result<Text, OutOfMemory> {
-    let mut text = Text::new(alloc);
-    for part in parts.iter() {
-        text.push_bytes(part.as_bytes())?;
-    }
-    Ok(text)
-}
-
 /// Whether `verify` of the document that the parts are has this verdict.
 fn is_said(alloc: Global, parts: [&str; 5], verdict: &str) -> bool {
     let answer = Answer {
@@ -152,7 +139,7 @@ fn is_said(alloc: Global, parts: [&str; 5], verdict: &str) -> bool {
         out: verdict,
         err: "",
     };
-    joined(alloc, parts).is_ok_and(|document| {
+    joined(alloc, &parts).is_ok_and(|document| {
         is_answered(alloc, "verify", document.as_bytes(), SOUND, answer)
     })
 }
@@ -173,7 +160,7 @@ fn is_said_of_edit(alloc: Global, case: (&str, &str, &str)) -> bool {
     else {
         return false;
     };
-    joined(alloc, [net, r#","proof":"#, before, case.1, behind]).is_ok_and(|document| {
+    joined(alloc, &[net, r#","proof":"#, before, case.1, behind]).is_ok_and(|document| {
         let answer = Answer {
             status: u8::from(case.2 != "yes\n"),
             out: case.2,

@@ -71,6 +71,10 @@ fn is_refused(alloc: Global, grammar: Grammar, line: &str) -> bool {
     words_in(alloc, line).is_ok_and(|words| have(alloc, grammar, words.as_slice(), None))
 }
 
+fn are_refused(alloc: Global, grammar: Grammar, lines: &[&str]) -> bool {
+    lines.iter().all(|line| is_refused(alloc, grammar, line))
+}
+
 /// Words, and the value of the budget that they give.
 const TAKEN: [(&str, Option<u64>); 5] = [
     ("", None),
@@ -121,15 +125,9 @@ const REFUSED: [&str; 27] = [
     "--budget --budget 5",
 ];
 
-fn all_are_refused(alloc: Global) -> bool {
-    REFUSED
-        .iter()
-        .all(|line| is_refused(alloc, Grammar::Budget, line))
-}
-
 #[test]
 fn other_words_are_refused(rt: HostRuntime) {
-    assert!(rt; all_are_refused(rt.alloc()));
+    assert!(rt; are_refused(rt.alloc(), Grammar::Budget, &REFUSED));
 }
 
 /// Words, and the values of the three options that they give.
@@ -154,12 +152,6 @@ const REFUSED_BY_THREE: [&str; 4] = [
     "--parts 0 --workers 1",
 ];
 
-fn all_are_refused_by_three(alloc: Global) -> bool {
-    REFUSED_BY_THREE
-        .iter()
-        .all(|line| is_refused(alloc, Grammar::Parts, line))
-}
-
 fn all_three_are_taken(alloc: Global) -> bool {
     TAKEN_BY_THREE
         .iter()
@@ -169,17 +161,14 @@ fn all_three_are_taken(alloc: Global) -> bool {
 #[test]
 fn options_come_in_any_order(rt: HostRuntime) {
     assert!(rt; all_three_are_taken(rt.alloc()));
-    assert!(rt; all_are_refused_by_three(rt.alloc()));
+    assert!(rt; are_refused(rt.alloc(), Grammar::Parts, &REFUSED_BY_THREE));
 }
 
 const NO_OPTIONS: [&str; 6] = ["x", "--", "help", "--help", "-h", "--budget 5"];
 
 fn none_are_taken(alloc: Global) -> bool {
     no_options();
-    is_taken(alloc, Grammar::Nothing, "", &[])
-        && NO_OPTIONS
-            .iter()
-            .all(|line| is_refused(alloc, Grammar::Nothing, line))
+    is_taken(alloc, Grammar::Nothing, "", &[]) && are_refused(alloc, Grammar::Nothing, &NO_OPTIONS)
 }
 
 #[test]
