@@ -1,3 +1,4 @@
+pub mod Candidates
 pub mod Closing
 pub mod Naming
 pub mod OfNet

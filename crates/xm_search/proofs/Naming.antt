@@ -23,7 +23,7 @@ use Rattle.xm_model.specs.Component.{Component, Queue}
 use Rattle.xm_proof.specs.Tests.{capacity_row, is_queue, literal_row, only_where, of_pair, of_queue, queue_columns}
 use Rattle.xm_proof.specs.Valid.{item_row}
 use Rattle.xm_proof.specs.declared.proof.Item.TheVariants as item
-use Rattle.xm_search.specs.Inner.Constraints.{capacities, equation, said, said_by, said_row}
+use Rattle.xm_search.specs.Constraints.{capacities, equation, said, said_by, said_row}
 use Rattle.xm_search.specs.Inner.Named.{HasCapacity, row_said}
 use Rattle.xm_search.specs.Inner.Taken.{all_taken, lows_taken}
 

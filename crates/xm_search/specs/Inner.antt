@@ -1,5 +1,4 @@
 -- What private clauses cite, and no public one.
-pub mod Constraints
 pub mod Named
 pub mod Taken
 pub mod Walking

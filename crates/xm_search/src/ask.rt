@@ -7,7 +7,7 @@ ghost use Rattle.xm_flow.specs.ValidLemma.{Lemma};
 ghost use Rattle.xm_lits.specs.declared.literal.Lit.{Lit as Literal};
 ghost use Rattle.xm_proof.specs.Tests.{queue_columns};
 ghost use Rattle.xm_proof.specs.Valid.{Closes};
-ghost use Rattle.xm_search.specs.Inner.Constraints.{constraints};
+ghost use Rattle.xm_search.specs.Constraints.{constraints};
 ghost use Rattle.xm_search.specs.Inner.Named.{AreNamed, AreShared};
 ghost use Rattle.xm_search.specs.Inner.Taken.{ClosesBy, Says, all_taken, lows_taken, taken};
 

@@ -9,7 +9,7 @@ ghost use Rattle.xm_lits.specs.Paths.{is_on_path};
 ghost use Rattle.xm_proof.specs.Tests.{entries_where, of_queue, queue_columns};
 ghost use Rattle.xm_proof.specs.Valid.{item_row};
 ghost use Rattle.xm_rows.specs.Row.{Fits128, IsRow};
-ghost use Rattle.xm_search.specs.Inner.Constraints.{capacities, equation, said, said_by, said_row};
+ghost use Rattle.xm_search.specs.Constraints.{capacities, equation, said, said_by, said_row};
 ghost use Rattle.xm_lits.specs.Repeating.{capacity_at};
 ghost use Rattle.xm_model.specs.Component.{component_of};
 ghost use Rattle.xm_proof.specs.Tests.{is_queue};

@@ -12,7 +12,7 @@ use Rattle.xm_proof.specs.Valid.{item_row, of_a_queue}
 use Rattle.xm_proof.specs.declared.proof.Item.{Item}
 use Rattle.xm_proof.specs.declared.proof.Item.TheVariants as item
 use Rattle.xm_rows.specs.Row.{IsRow, SparseRow}
-use Rattle.xm_search.specs.Inner.Constraints.{capacities, equation}
+use Rattle.xm_search.specs.Constraints.{capacities, equation}
 use Rattle.xm_search.specs.declared.bounds.Bounds.{Bounds}
 
 -- the pair is one of the queue, or the one of the queue with the colour

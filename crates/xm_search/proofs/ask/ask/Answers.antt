@@ -1,7 +1,7 @@
 use Rattle.std.proofs.Common.{◌++◌, List, ap, length, subst, ◌∙◌}
 use Rattle.std.specs.Prelude.{IfOk}
 use Rattle.xm_lp.specs.declared.decision.Con.{Con}
-use Rattle.xm_search.specs.Inner.Constraints.{said}
+use Rattle.xm_search.specs.Constraints.{said}
 use Rattle.xm_search.specs.Inner.Taken.{Says}
 use Rattle.xm_search.proofs.Naming.{none_named}
 use Rattle.xm_search.proofs.ask.ask.Goals as goal

@@ -1,7 +1,7 @@
 use Rattle.std.proofs.Common.{◌≡◌, ◌++◌, List, take}
 use Rattle.xm_flow.specs.ValidLemma.{Lemma}
 use Rattle.xm_lits.specs.declared.literal.Lit.{Lit}
-use Rattle.xm_search.specs.Inner.Constraints.{capacities}
+use Rattle.xm_search.specs.Constraints.{capacities}
 use Rattle.xm_search.specs.Inner.Named.{AreNamed}
 use Rattle.xm_search.proofs.bounds.push_capacities.Given as goal
 

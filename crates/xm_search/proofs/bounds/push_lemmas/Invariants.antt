@@ -3,7 +3,7 @@ use Rattle.xm_design.specs.Designed.{Designed}
 use Rattle.xm_flow.specs.ValidLemma.{lemma_of}
 use Rattle.xm_lits.specs.declared.literal.Lit.{Lit}
 use Rattle.xm_proof.specs.Tests.{queue_columns}
-use Rattle.xm_search.specs.Inner.Constraints.{equation}
+use Rattle.xm_search.specs.Constraints.{equation}
 use Rattle.xm_search.specs.Inner.Named.{AreNamed}
 use Rattle.xm_search.proofs.bounds.push_lemmas.Given as goal
 

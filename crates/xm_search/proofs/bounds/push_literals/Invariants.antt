@@ -1,6 +1,6 @@
 use Rattle.std.proofs.Common.{◌≡◌, ◌++◌, List, take}
 use Rattle.xm_flow.specs.ValidLemma.{Lemma}
-use Rattle.xm_search.specs.Inner.Constraints.{said}
+use Rattle.xm_search.specs.Constraints.{said}
 use Rattle.xm_search.specs.Inner.Named.{AreNamed}
 use Rattle.xm_search.proofs.bounds.push_literals.Given as goal
 
