@@ -110,3 +110,7 @@ width_line pairs = line (codes "net: too wide " ++ decimal pairs)
 -- the elimination left 128 bits in this column of the flow rows
 abbrev pub overflow_line : ℕ → List ℕ
 overflow_line column = line (codes "overflow column " ++ decimal column)
+
+-- the search's tableau left 128 bits after so many pivots
+abbrev pub pivots_line : ℕ → List ℕ
+pivots_line pivots = line (codes "overflow pivots " ++ decimal pivots)

@@ -11,8 +11,8 @@ mod verdict;
 pub use check::check_text;
 pub use invariants::{invariant_lines, invariant_text};
 pub use lines::{
-    colour_line, document_line, form_line, loop_line, overflow_line, persistency_line, tape_line,
-    width_line, wiring_line,
+    colour_line, document_line, form_line, loop_line, overflow_line, persistency_line, pivots_line,
+    tape_line, width_line, wiring_line,
 };
 pub use search::{open_text, spent_text};
 pub use verdict::verdict_text;

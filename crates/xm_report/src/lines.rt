@@ -265,6 +265,13 @@ pub fn overflow_line(alloc: Global, column: u32) -> Result<Text, OutOfMemory>
     number_line(alloc, b"overflow column ", u64::from(column))
 }
 
+/// The line of a search whose tableau leaves 128 bits, after so many pivots.
+pub fn pivots_line(alloc: Global, pivots: u64) -> Result<Text, OutOfMemory>
+    ensures { IfOk result (λ text. text.items ≡ spec.pivots_line pivots) }
+{
+    number_line(alloc, b"overflow pivots ", pivots)
+}
+
 /// The line of a channel that is not granted a persistent initiator.
 pub fn persistency_line(alloc: Global, names: &Names, c: u32) -> Result<Text, OutOfMemory>
     ensures { IfOk result (λ text. text.items ≡ spec.persistency_line (naming_of names.now) c) }
