@@ -11,4 +11,4 @@ mod values;
 mod write;
 
 pub use laws::{invariants_can_be_written, names_tell};
-pub use write::write_proof;
+pub use write::{proof_text, write_proof};

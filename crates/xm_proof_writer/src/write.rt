@@ -1,7 +1,9 @@
 //! A proof as a value.
 
-ghost use Rattle.std.specs.Prelude.{◌≡◌, IfOk, Ok, Some};
+ghost use Rattle.std.specs.Prelude.{◌≡◌, IfOk, Ok, Some, string_bytes};
 ghost use Rattle.serde_json.specs.View.{view};
+ghost use Rattle.serde_json.specs.Written.{compact_text};
+ghost use Rattle.xm_netlist.specs.Valid.{IsPart};
 ghost use Rattle.xm_proof.specs.Argument.{argument_of};
 ghost use Rattle.xm_proof_reader.specs.Views.{known_of};
 ghost use Rattle.xm_proof_reader.specs.Reading.{proof_in};
@@ -35,14 +37,26 @@ fn proof_value(alloc: Global, known: &Known<'_>, proof: &Proof) -> Result<Value,
 }
 
 /// The value of the proof, in time that grows with its length and the number of queue pairs. Reading it gives the
-/// proof again. Fails only for want of memory.
+/// proof again, and it can stand in a document. Fails only for want of memory.
 pub fn write_proof(alloc: Global, known: &Known<'_>, proof: &Proof) -> Result<Value, OutOfMemory>
     requires { CanBeWritten (known_of known.now) (argument_of proof.now) }
     ensures value { IfOk result (λ v. view v ≡ spec.proof_data (known_of known.now) (argument_of proof.now)) }
     ensures again { IfOk result (λ v. proof_in (known_of known.now) (Some (view v)) ≡ Ok (argument_of proof.now)) }
+    ensures part { IfOk result (λ v. IsPart (view v)) }
 {
     known.design.is_designed();
     known.design.colours();
     let value = proof_value(alloc, known, proof)?;
     Ok(value)
+}
+
+/// The proof as compact JSON. Fails only for want of memory.
+pub fn proof_text(alloc: Global, known: &Known<'_>, proof: &Proof) -> Result<String, OutOfMemory>
+    requires { CanBeWritten (known_of known.now) (argument_of proof.now) }
+    ensures { IfOk result (λ text. string_bytes text
+        ≡ compact_text (spec.proof_data (known_of known.now) (argument_of proof.now))) }
+{
+    let value = proof_value(alloc, known, proof)?;
+    let text = value.to_string(alloc)?;
+    Ok(text)
 }
