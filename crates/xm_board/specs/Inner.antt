@@ -5,4 +5,5 @@ pub mod Logging
 pub mod Posting
 pub mod Rounds
 pub mod Standing
+pub mod Starting
 pub mod Taking

@@ -7,6 +7,7 @@ use crate::newest::Newest;
 use crate::posting::{note_at, push_at, put_newest, rise_if, tell, turn_at};
 use crate::rounds::clear_all;
 use crate::row_log::RowLog;
+use crate::starting::{first_cycle, first_far, first_logs, first_moves, neighbours_of, no_newest};
 use crate::taking::{make_move_room, make_row_room, take_newest};
 use crate::two_cycles::TwoCycles;
 use std::alloc::Global;
@@ -60,6 +61,49 @@ impl<'a> Board<'a> {
     ghost use Rattle.xm_board.specs.Core.{rounded};
     ghost use Rattle.xm_board.specs.declared.answers.Posted.{Posted};
     ghost use Rattle.xm_board.specs.declared.answers.Posted.TheVariants as Posted;
+    ghost use Rattle.xm_board.specs.Run.{IsStart};
+    ghost use Rattle.xm_tape.specs.Taped.{Fits};
+
+    /// The board of these parts at cycle 0, in a first round up to a target. The first take of each part makes its
+    /// newest row.
+    pub fn new(
+        alloc: Global,
+        design: &'a Design,
+        tape: &'a Tape,
+        parts: &'a Parts,
+        target: u32,
+    ) -> Result<Board<'a>, OutOfMemory>
+        requires design { parts.now.design ≡ design.now }
+        requires fits { Fits design.now.net tape.now }
+        requires within { target < cycles_of tape.now }
+        requires round { target < 1024 }
+        ensures run { IfOk result (λ board. board.run
+            ≡ record { net = design.now.net; tape = tape.now; labels = parts.now.labels }) }
+        ensures core { IfOk result (λ board. IsStart board.run parts.now.count target board.core) }
+    {
+        fits_hold();
+        capacity_law();
+        design.is_designed();
+        let count = parts.count();
+        let near = neighbours_of(alloc, parts)?;
+        let first = first_cycle(alloc, design, tape)?;
+        let logs = first_logs(alloc, design, parts, &first)?;
+        let moves = first_moves(alloc, parts, logs.as_slice())?;
+        let far = first_far(alloc, design, parts, logs.as_slice())?;
+        let newest = no_newest(alloc, count)?;
+        let core = BoardCore::new(alloc, near, target)?;
+        Ok(Board {
+            design,
+            tape,
+            parts,
+            core,
+            floor: 0,
+            logs,
+            moves,
+            far,
+            newest,
+        })
+    }
 
     /// The least cycle of all parts.
     pub fn floor(&self) -> u32

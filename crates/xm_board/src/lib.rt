@@ -10,6 +10,7 @@ mod newest;
 mod posting;
 mod rounds;
 mod row_log;
+mod starting;
 mod taking;
 mod two_cycles;
 
