@@ -1,5 +1,6 @@
 -- What private clauses cite, and no public one.
 pub mod Choosing
+pub mod Gluing
 pub mod Jobs
 pub mod Logging
 pub mod Posting

@@ -2,6 +2,7 @@
 
 use crate::answers::{Posted, Take};
 use crate::board_core::{BoardCore, Choice};
+use crate::gluing::glued;
 use crate::job::{Done, Job};
 use crate::newest::Newest;
 use crate::posting::{note_at, push_at, put_newest, rise_if, tell, turn_at};
@@ -15,7 +16,7 @@ use std::marker::Model;
 use xm_design::{Design, fits_hold};
 use xm_model::{List, OutOfMemory};
 use xm_order::one_run;
-use xm_parts::{Change, PartRow, Parts, capacity_law, far_law};
+use xm_parts::{Change, PartRow, Parts, Snapshot, capacity_law, far_law, fit_law};
 use xm_tape::Tape;
 use xm_trace::Move;
 
@@ -63,6 +64,9 @@ impl<'a> Board<'a> {
     ghost use Rattle.xm_board.specs.declared.answers.Posted.TheVariants as Posted;
     ghost use Rattle.xm_board.specs.Run.{IsStart};
     ghost use Rattle.xm_tape.specs.Taped.{Fits};
+    ghost use Rattle.std.specs.Prelude.{length, map};
+    ghost use Rattle.xm_model.specs.Component.{content_of};
+    ghost use Rattle.xm_parts.specs.Gluing.{HoldsAll};
 
     /// The board of these parts at cycle 0, in a first round up to a target. The first take of each part makes its
     /// newest row.
@@ -336,5 +340,23 @@ impl<'a> Board<'a> {
         ensures { (floor : ℕ) → IsFloor self.now.core floor → AreChanges self.now p floor result.now }
     {
         self.logs.as_slice()[p as usize].changes.as_slice()
+    }
+
+    /// The state and the frame of the whole network at the floor.
+    pub fn snapshot(&self, alloc: Global) -> Result<Snapshot, OutOfMemory>
+        ensures floor { IfOk result (λ it. IsFloor self.now.core it.cycle) }
+        ensures cells { IfOk result (λ it. length it.state.cells.items ≡ length self.now.run.net.prims) }
+        ensures channels { IfOk result (λ it. length it.frame.wires.items ≡ self.now.run.net.channels) }
+        ensures holds { (s : ℕ → ℕ → Content) (φ : ℕ → Signals) → IsNamed self.now.run s φ
+            → IfOk result (λ it. HoldsAll self.now.run.net (s it.cycle) (φ it.cycle)
+            (map content_of it.state.cells.items) it.frame.wires.items) }
+    {
+        one_run();
+        fits_hold();
+        fit_law();
+        self.design.is_designed();
+        self.core.is_core();
+        let logs = self.logs.as_slice();
+        glued(alloc, self.design, self.parts, logs, self.floor)
     }
 }

@@ -4,6 +4,7 @@
 mod answers;
 mod board;
 mod board_core;
+mod gluing;
 mod job;
 mod laws;
 mod newest;
