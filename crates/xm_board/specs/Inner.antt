@@ -3,6 +3,7 @@ pub mod Choosing
 pub mod Gluing
 pub mod Jobs
 pub mod Logging
+pub mod Merging
 pub mod Posting
 pub mod Rounds
 pub mod Standing

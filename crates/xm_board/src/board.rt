@@ -4,6 +4,7 @@ use crate::answers::{Posted, Take};
 use crate::board_core::{BoardCore, Choice};
 use crate::gluing::glued;
 use crate::job::{Done, Job};
+use crate::merging::merged;
 use crate::newest::Newest;
 use crate::posting::{note_at, push_at, put_newest, rise_if, tell, turn_at};
 use crate::rounds::clear_all;
@@ -18,7 +19,7 @@ use xm_model::{List, OutOfMemory};
 use xm_order::one_run;
 use xm_parts::{Change, PartRow, Parts, Snapshot, capacity_law, far_law, fit_law};
 use xm_tape::Tape;
-use xm_trace::Move;
+use xm_trace::{Move, Trace};
 
 /// The simulator's core: of each part its rows from the floor to its own cycle, and its moves of the round. A contract
 /// sees the run and the core.
@@ -64,7 +65,8 @@ impl<'a> Board<'a> {
     ghost use Rattle.xm_board.specs.declared.answers.Posted.TheVariants as Posted;
     ghost use Rattle.xm_board.specs.Run.{IsStart};
     ghost use Rattle.xm_tape.specs.Taped.{Fits};
-    ghost use Rattle.std.specs.Prelude.{length, map};
+    ghost use Rattle.std.specs.Prelude.{◌-◌, length, map};
+    ghost use Rattle.xm_trace.specs.Runs.{AreMovesFrom};
     ghost use Rattle.xm_model.specs.Component.{content_of};
     ghost use Rattle.xm_parts.specs.Gluing.{HoldsAll};
 
@@ -121,6 +123,13 @@ impl<'a> Board<'a> {
         ensures { result ≡ self.now.core.first }
     {
         self.core.first()
+    }
+
+    /// The last cycle of the round.
+    pub fn target(&self) -> u32
+        ensures { result ≡ self.now.core.target }
+    {
+        self.core.target()
     }
 
     /// The cycle of a part.
@@ -358,5 +367,25 @@ impl<'a> Board<'a> {
         self.core.is_core();
         let logs = self.logs.as_slice();
         glued(alloc, self.design, self.parts, logs, self.floor)
+    }
+
+    /// The run's moves of the round, by cycle and then channel, where every part is at the target. It takes time that is
+    /// linear in the round's cycles and the channels.
+    pub fn trace(&self, alloc: Global) -> Result<Trace, OutOfMemory>
+        requires { AllDone self.now.core }
+        ensures cycles { IfOk result (λ it. it.cycles ≡ suc self.now.core.target - self.now.core.first) }
+        ensures moves { IfOk result (λ it. AreMovesFrom self.now.run.net self.now.run.tape self.now.core.first
+            (suc self.now.core.target - self.now.core.first) it.moves.items) }
+    {
+        self.core.is_core();
+        let _cycles = self.tape.cycles();
+        let from = self.core.first();
+        let to = self.core.target() + 1;
+        let all = self.moves.as_slice();
+        let moves = merged(alloc, self.design, self.parts, all, from, to)?;
+        Ok(Trace {
+            cycles: to - from,
+            moves,
+        })
     }
 }

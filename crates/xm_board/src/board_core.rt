@@ -156,6 +156,13 @@ impl BoardCore {
         self.first
     }
 
+    /// The last cycle of the round.
+    pub fn target(&self) -> u32
+        ensures { result ≡ self.now.target }
+    {
+        self.target
+    }
+
     /// The cycle of a part.
     pub fn cycle(&self, p: u32) -> u32
         ensures { result ≡ cycle_in self.now p }

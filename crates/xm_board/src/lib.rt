@@ -7,6 +7,7 @@ mod board_core;
 mod gluing;
 mod job;
 mod laws;
+mod merging;
 mod newest;
 mod posting;
 mod rounds;
