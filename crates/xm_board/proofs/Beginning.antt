@@ -1,21 +1,19 @@
 -- What is made for a board at the start is that of cycle 0.
 use Rattle.std.proofs.Common.{◌≡◌, ◌≢◌, ℕ, zero, suc, ◌+◌, ◌-◌, ◌<◌, ◌≤◌, Bool, true, false, List, [], ◌∷◌, ◌++◌, length, map, nat_eq, eq-eqb, Option, Some, None, slice_get, refl, ap, ap₂, sym, ◌∙◌, subst, inl, inr, arith, length-append}
 use Rattle.std.specs.List.{list_any}
-use Rattle.std.specs.Prelude.{◌⊎◌, ◌↔◌, cond, replicate, slice_index_or}
+use Rattle.std.specs.Prelude.{◌↔◌, cond, replicate, slice_index_or}
 use Rattle.std.proofs.lemmas.Bool.{cases_lt}
 use Rattle.std.proofs.lemmas.Bool.Decides.{eqb_tells}
-use Rattle.std.proofs.lemmas.List.{length-map, length-replicate, map-append}
+use Rattle.std.proofs.lemmas.List.{length-map, map-append}
 use Rattle.std.proofs.lemmas.Option.{get_or_from_slice_get, same_Some, slice_get-map, slice_get_within}
 use Rattle.xm_board.proofs.Coming.{moves_further}
 use Rattle.xm_board.proofs.Keeping.{item_at}
 use Rattle.xm_board.proofs.Standing.{nothing_out}
-use Rattle.xm_board.specs.Core.{Core, IsFloor, IsMutual, cycle, is_near, is_out, started}
-use Rattle.xm_board.specs.Inner.Jobs.{IsNewest, run_in}
-use Rattle.xm_board.specs.Inner.Logging.{IsLogOf}
-use Rattle.xm_board.specs.Inner.Posting.{moves_on}
-use Rattle.xm_board.specs.Inner.Standing.{AreFar, AreLogs, AreMoves, AreNewest, IsBoard, IsSetUp, moves_in}
+use Rattle.xm_board.specs.Core.{Core, IsMutual, cycle, is_out, started}
+use Rattle.xm_board.specs.Inner.Jobs.{run_in}
+use Rattle.xm_board.specs.Inner.Standing.{AreFar, AreLogs, AreMoves, AreNewest, IsBoard, moves_in}
 use Rattle.xm_board.specs.Inner.Starting.{AreEach, AreFirstMoves, IsFirst, IsFirstFar, IsFirstLog, IsNoNewest}
-use Rattle.xm_board.specs.Run.{IsNamed, RunName, row_at}
+use Rattle.xm_board.specs.Run.{IsNamed, row_at}
 use Rattle.xm_board.specs.declared.newest.Newest.{Newest}
 use Rattle.xm_board.specs.declared.row_log.RowLog.{RowLog}
 use Rattle.xm_board.specs.declared.two_cycles.TwoCycles.{TwoCycles}
@@ -29,11 +27,11 @@ use Rattle.xm_model.specs.Views.{content_at, signals_of}
 use Rattle.xm_model.specs.declared.state.Wire.{Wire}
 use Rattle.xm_order.specs.Lemmas.Items.{push_cases}
 use Rattle.xm_order.specs.OneFrame.{SameFrame}
-use Rattle.xm_parts.specs.Changing.{CapacityLaw, IsChange, IsWithinCapacities}
+use Rattle.xm_parts.specs.Changing.{CapacityLaw, IsWithinCapacities}
 use Rattle.xm_parts.specs.Far.{AreFarFrom, SetFrom}
 use Rattle.xm_parts.specs.Kept.{Division, label_at}
 use Rattle.xm_parts.specs.Near.{AreNear}
-use Rattle.xm_parts.specs.Partition.{AreNeighbours, channels_in, cuts_in, far_at, far_channel, lies_in, outer, prims_in}
+use Rattle.xm_parts.specs.Partition.{AreNeighbours, channels_in, far_channel, lies_in, outer, prims_in}
 use Rattle.xm_parts.specs.Passing.{passing}
 use Rattle.xm_parts.specs.Projection.{Row, projection, wire_of}
 use Rattle.xm_parts.specs.Rows.{row_of}

@@ -1,5 +1,5 @@
 -- What is put together from the rows of all parts.
-use Rattle.std.proofs.Common.{◌≡◌, ◌<◌, ℕ, List, sym, subst, map}
+use Rattle.std.proofs.Common.{◌≡◌, ◌<◌, ℕ, List, sym, subst}
 use Rattle.xm_board.specs.declared.row_log.RowLog.{RowLog}
 use Rattle.xm_design.specs.Designed.{Designed, IsDesigned}
 use Rattle.xm_model.specs.Component.{Content}

@@ -1,12 +1,12 @@
 -- What a snapshot of a board has.
-use Rattle.std.proofs.Common.{◌≡◌, ◌<◌, ◌≤◌, ◌+◌, ℕ, List, length, map, Option, Some, slice_get, ap, sym, subst, ◌∙◌, arith}
+use Rattle.std.proofs.Common.{◌≡◌, ◌≤◌, ◌+◌, ℕ, List, length, map, Option, ap, sym, subst, ◌∙◌, arith}
 use Rattle.std.specs.Prelude.{IfOk, Result, Ok, Err}
 use Rattle.std.proofs.lemmas.Result.{IfOk-weaker}
-use Rattle.xm_board.specs.Core.{Core, IsCore, IsFloor, cycle}
+use Rattle.xm_board.specs.Core.{Core, IsCore, IsFloor}
 use Rattle.xm_board.specs.Inner.Gluing.{AreRowsOf, HaveFitRows}
 use Rattle.xm_board.specs.Inner.Jobs.{run_in}
 use Rattle.xm_board.specs.Inner.Standing.{IsBoard}
-use Rattle.xm_board.specs.Run.{Boarded, IsNamed, RunName, row_at}
+use Rattle.xm_board.specs.Run.{Boarded, IsNamed, row_at}
 use Rattle.xm_board.specs.declared.newest.Newest.{Newest}
 use Rattle.xm_board.specs.declared.row_log.RowLog.{RowLog}
 use Rattle.xm_board.specs.declared.two_cycles.TwoCycles.{TwoCycles}

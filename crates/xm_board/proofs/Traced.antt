@@ -1,7 +1,7 @@
 -- The moves of a board's round, where all parts are at the target, are those of the run.
 use Rattle.std.proofs.Common.{◌≡◌, ◌<◌, ◌≤◌, ◌-◌, ℕ, suc, List, Option, Some, slice_get, ap, ap₂, sym, subst, ◌∙◌, arith}
 use Rattle.std.proofs.lemmas.Option.{slice_get_within}
-use Rattle.xm_board.specs.Core.{AllDone, Core, IsCore, cycle}
+use Rattle.xm_board.specs.Core.{AllDone, Core, IsCore}
 use Rattle.xm_board.specs.Inner.Jobs.{run_in}
 use Rattle.xm_board.specs.Inner.Merging.{part_of}
 use Rattle.xm_board.specs.Inner.Standing.{IsBoard, moves_in}

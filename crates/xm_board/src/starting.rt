@@ -53,9 +53,11 @@ fn copied(alloc: Global, from: &[u32]) -> Result<List<u32>, OutOfMemory>
 
 /// The neighbours of each part.
 pub fn neighbours_of(alloc: Global, parts: &Parts) -> Result<List<List<u32>>, OutOfMemory>
-    ensures near { IfOk result (λ made. AreEach (λ p (l : ListView ℕ). AreNear parts.now.design.net (label_at parts.now.labels) p l.items)
+    ensures near { IfOk result (λ made. AreEach
+        (λ p (l : ListView ℕ). AreNear parts.now.design.net (label_at parts.now.labels) p l.items)
         parts.now.count made.items) }
-    ensures others { (p q : ℕ) → p < parts.now.count → AreNeighbours parts.now.design.net (label_at parts.now.labels) p q
+    ensures others { (p q : ℕ) → p < parts.now.count
+        → AreNeighbours parts.now.design.net (label_at parts.now.labels) p q
         → IfOk result (λ _. (q < parts.now.count) × (q ≢ p)) }
 {
     let mut made = List::new(alloc);

@@ -1,5 +1,6 @@
 //! A suite for each layer, and what they build on: nets as tables, and names.
 
+mod boards;
 mod colours;
 mod cycles;
 mod decisions;

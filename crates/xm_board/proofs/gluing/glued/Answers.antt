@@ -1,9 +1,8 @@
-use Rattle.std.proofs.Common.{◌≡◌, ◌<◌, ◌≤◌, ℕ, List, length, map, refl, ap, sym, subst, ◌∙◌, arith, inl, inr}
+use Rattle.std.proofs.Common.{◌≡◌, ◌<◌, ℕ, length, refl, ap, sym, subst, ◌∙◌, arith, inl, inr}
 use Rattle.std.proofs.lemmas.Bool.{cases_lt}
 use Rattle.std.proofs.lemmas.Option.{slice_get_read}
 use Rattle.xm_board.proofs.Glued.{added_here, kept_here, whole_net}
 use Rattle.xm_design.specs.Designed.{Designed}
-use Rattle.xm_model.specs.Net.{Network}
 use Rattle.xm_parts.specs.Gluing.{FitCells, HoldsPart}
 use Rattle.xm_parts.specs.Kept.{label_at}
 use Rattle.xm_parts.specs.Rows.{FitsPart}

@@ -1,4 +1,4 @@
-use Rattle.std.proofs.Common.{◌≡◌, ◌<◌, ◌≤◌, ◌+◌, ◌-◌, ◌++◌, [], ℕ, suc, List, Some, slice_get, ap, sym, subst, ◌∙◌, refl, arith, length}
+use Rattle.std.proofs.Common.{◌≡◌, ◌≤◌, ◌+◌, ◌-◌, [], ℕ, suc, Some, slice_get, ap, sym, subst, ◌∙◌, arith, length}
 use Rattle.xm_board.proofs.InOrder.{left_is, none_of, nothing_taken, round_more, round_next, suc_is, taken_on}
 use Rattle.xm_board.specs.Inner.Merging.{AreTaken, part_of, round_rest}
 use Rattle.xm_design.specs.Designed.{Designed}

@@ -1,4 +1,4 @@
-use Rattle.std.proofs.Common.{◌≡◌, ◌-◌, [], ℕ, List, length, Some, slice_get}
+use Rattle.std.proofs.Common.{◌≡◌, ◌-◌, [], ℕ, length, Some, slice_get}
 use Rattle.xm_board.specs.Inner.Merging.{AreTaken, part_of, round_rest}
 use Rattle.xm_model.specs.ListView.{ListView}
 use Rattle.xm_model.specs.Signals.{Signals}

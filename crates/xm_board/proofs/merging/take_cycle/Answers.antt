@@ -1,4 +1,4 @@
-use Rattle.std.proofs.Common.{◌≡◌, ◌<◌, ◌+◌, ◌-◌, ◌++◌, [], ℕ, suc, List, ap, sym, subst, ◌∙◌, refl, arith, length}
+use Rattle.std.proofs.Common.{◌≡◌, ◌+◌, ◌-◌, ◌++◌, ℕ, suc, List, sym, subst, ◌∙◌, refl, arith}
 use Rattle.xm_board.proofs.InOrder.{cycle_begins, cycle_ends, cycle_next, left_is, none_at, none_taken, suc_is, taken_on}
 use Rattle.xm_board.specs.Inner.Merging.{AreTaken, cycle_rest}
 use Rattle.xm_model.specs.Next.{move}

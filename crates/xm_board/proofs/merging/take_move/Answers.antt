@@ -1,4 +1,4 @@
-use Rattle.std.proofs.Common.{◌≡◌, ◌∷◌, ◌++◌, ◌+◌, [], ℕ, List, Some, None, get_or, slice_get, set, length, ap, ap₂, sym, subst, ◌∙◌, refl}
+use Rattle.std.proofs.Common.{◌≡◌, ◌∷◌, ◌++◌, ◌+◌, [], ℕ, List, get_or, slice_get, set, length, ap, ap₂, sym, subst, ◌∙◌, refl}
 use Rattle.std.proofs.lemmas.Option.{slice_get-get_or, slice_get_read}
 use Rattle.xm_board.proofs.InOrder.{moved_is, next_is, none_moved, passed_by, took}
 use Rattle.xm_board.specs.Inner.Merging.{AreTaken, due}

@@ -1,7 +1,6 @@
 use Rattle.std.proofs.Common.{◌≡◌, ◌≢◌, ◌<◌, ℕ, List, arith, inl, inr, subst, sym}
 use Rattle.std.proofs.lemmas.Bool.{cases_lt}
 use Rattle.xm_board.proofs.Beginning.{each_push}
-use Rattle.xm_board.specs.Inner.Starting.{AreEach}
 use Rattle.xm_model.specs.ListView.{ListView}
 use Rattle.xm_parts.specs.Kept.{label_at}
 use Rattle.xm_parts.specs.Near.{AreNear}

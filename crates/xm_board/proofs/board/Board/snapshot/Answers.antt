@@ -1,6 +1,5 @@
-use Rattle.std.proofs.Common.{◌≡◌, ◌<◌, ℕ, List, length, map, ap, sym, subst, ◌∙◌, refl, arith}
-use Rattle.std.proofs.lemmas.Result.{IfOk-weaker}
-use Rattle.xm_board.proofs.Snapping.{are_rows, fit_rows, snap_cells, snap_channels, snap_floor, snap_holds}
+use Rattle.std.proofs.Common.{List, length, ap, sym, subst, ◌∙◌}
+use Rattle.xm_board.proofs.Snapping.{fit_rows, snap_cells, snap_channels, snap_floor, snap_holds}
 use Rattle.xm_board.specs.Inner.Gluing.{HaveFitRows}
 use Rattle.xm_board.specs.declared.row_log.RowLog.{RowLog}
 use Rattle.xm_parts.specs.Kept.{label_at}

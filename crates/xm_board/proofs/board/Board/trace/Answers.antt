@@ -1,8 +1,7 @@
-use Rattle.std.proofs.Common.{◌≡◌, ◌<◌, ◌≤◌, ◌+◌, ◌-◌, ℕ, suc, length, ap, ap₂, sym, subst, ◌∙◌, arith}
+use Rattle.std.proofs.Common.{◌≡◌, ◌+◌, ◌-◌, ℕ, suc, length, ap, ap₂, sym, subst, ◌∙◌, arith}
 use Rattle.xm_board.proofs.Traced.{first_before, traced}
 use Rattle.xm_board.specs.Core.{AllDone}
 use Rattle.xm_board.specs.Run.{Boarded}
-use Rattle.xm_tape.specs.Taped.{cycles_of}
 use Rattle.xm_board.proofs.board.Board.trace.Goals as goal
 
 pub overflow_add-to : goal.overflow_add-to
