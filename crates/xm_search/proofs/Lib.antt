@@ -1,7 +1,13 @@
 pub mod Candidates
+pub mod Choices
 pub mod Closing
+pub mod Finishing
+pub mod Growing
+pub mod Looks
 pub mod Naming
 pub mod OfNet
+pub mod Orders
 pub mod Steps
 pub mod Summing
+pub mod Turning
 pub mod Walks

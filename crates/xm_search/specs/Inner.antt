@@ -1,4 +1,11 @@
 -- What private clauses cite, and no public one.
+pub mod Choosing
+pub mod Formed
+pub mod Goals
+pub mod Ground
+pub mod Growing
+pub mod Looking
 pub mod Named
+pub mod Progress
 pub mod Taken
 pub mod Walking

@@ -3,5 +3,8 @@ pub mod CandidateLaw
 pub mod Constraints
 pub mod GoalOrder
 pub mod Inner
+pub mod Partial
+pub mod Pivots
+pub mod Searched
 pub mod Trees
 pub mod Walk

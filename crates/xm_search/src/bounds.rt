@@ -109,7 +109,7 @@ fn packets_row(
 }
 
 /// The same row.
-fn copy(alloc: Global, row: &Row) -> Result<Row, OutOfMemory>
+pub fn copy(alloc: Global, row: &Row) -> Result<Row, OutOfMemory>
     ensures same { IfOk result (λ copy. copy ≡ row.now) }
     ensures row { IsRow row.now }
 {
@@ -304,7 +304,7 @@ fn push_said(
 }
 
 /// The capacity of queue `q`, where it is one.
-fn queue_capacity(design: &Design, q: u32) -> Option<u32>
+pub fn queue_capacity(design: &Design, q: u32) -> Option<u32>
     ensures none { IfNone result (is_queue (slice_get design.now.net.prims q) ≡ false) }
     ensures some { IfSome result (λ _. is_queue (slice_get design.now.net.prims q) ≡ true) }
     ensures capacity { IfSome result (λ n. capacity_at (slice_get design.now.net.prims q) ≡ n) }

@@ -3,12 +3,21 @@
 
 mod ask;
 mod bounds;
+mod choosing;
+mod ends;
+mod form;
 mod found;
+mod goal;
+mod ground;
+mod growth;
 mod laws;
+mod look;
 mod near;
 mod order;
+mod searching;
 mod walk;
 
 pub use found::{Candidate, Found, SearchFault};
 pub use laws::candidates_exclude_trees;
 pub use order::goal_order;
+pub use searching::search;
