@@ -1,3 +1,4 @@
+mod Calls
 mod Checked
 mod OneAnswer
 mod OneBasis

@@ -1,4 +1,5 @@
 -- What private clauses cite, and no public one.
+pub mod CallEnded
 pub mod Invariants
 pub mod Prepared
 pub mod RunSoFar

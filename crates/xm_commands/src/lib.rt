@@ -3,7 +3,9 @@
 #![tactic(auto)]
 
 mod answer;
+mod call;
 mod command;
+mod generating;
 mod invariants;
 mod laws;
 mod prepared;
@@ -13,6 +15,7 @@ mod top;
 mod verifying;
 mod writing;
 
+pub use call::Call;
 pub use command::{Command, Outcome};
 pub use laws::{
     no_output_of_refused, one_output, one_refusal, printed_invariants_hold, verified_nets_hold,

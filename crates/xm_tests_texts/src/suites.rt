@@ -2,6 +2,7 @@
 
 mod commands;
 mod documents;
+mod generated;
 mod helpers;
 mod inputs;
 mod lines;

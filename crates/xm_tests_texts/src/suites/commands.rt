@@ -34,6 +34,18 @@ pub const SOUND: Outside = Outside {
     out_fails: false,
 };
 
+/// The source fails.
+pub const WITHOUT_SOURCE: Outside = Outside {
+    source_fails: true,
+    out_fails: false,
+};
+
+/// The output fails.
+pub const WITHOUT_OUTPUT: Outside = Outside {
+    source_fails: false,
+    out_fails: true,
+};
+
 /// No call, or call 1 alone.
 fn failing(alloc: Global, is_failing: bool) -> Result<List<u32>, OutOfMemory> {
     let mut calls = List::new(alloc);
@@ -217,10 +229,7 @@ fn a_loop_is_told(rt: HostRuntime) {
 /// A fault of the source, and one of the output, with what is answered then.
 const FAULTS: [(Outside, Answer); 2] = [
     (
-        Outside {
-            source_fails: true,
-            out_fails: false,
-        },
+        WITHOUT_SOURCE,
         Answer {
             status: 6,
             out: "",
@@ -228,10 +237,7 @@ const FAULTS: [(Outside, Answer); 2] = [
         },
     ),
     (
-        Outside {
-            source_fails: false,
-            out_fails: true,
-        },
+        WITHOUT_OUTPUT,
         Answer {
             status: 7,
             out: "0 c0:",
@@ -268,7 +274,7 @@ fn status_out(alloc: Global, document: Text, out: &mut MemSink) -> Option<u8> {
 }
 
 /// An output that takes a whole round in one call, and may fail in one.
-fn wide(alloc: Global, fails: Option<u32>) -> Result<MemSink, OutOfMemory> {
+pub fn wide(alloc: Global, fails: Option<u32>) -> Result<MemSink, OutOfMemory> {
     let mut calls = List::new(alloc);
     if let Some(call) = fails {
         calls.push(call)?;

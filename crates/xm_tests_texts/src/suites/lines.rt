@@ -8,7 +8,7 @@ use xm_generate::gen_document;
 use xm_netlist::read_document;
 
 /// The smallest line, of seed 0.
-const TWO_STATIONS: &str = concat!(
+pub const TWO_STATIONS: &str = concat!(
     r#"{"colours":["d0","d1","d2","d3","d4","d5","d6","d7"],"net":["#,
     r#"{"colours":["d7","d1"],"kind":"source","name":"S0","out":"s0"},"#,
     r#"{"capacity":2,"in":"s0","kind":"queue","name":"T0","out":"t0"},"#,
@@ -22,7 +22,7 @@ fn the_smallest_line_is_as_written_by_hand(rt: HostRuntime) {
 }
 
 /// Whether the text is a document with so many primitives and channels.
-fn has_numbers(alloc: Global, text: &[u8], prims: usize, channels: u32) -> bool {
+pub fn has_numbers(alloc: Global, text: &[u8], prims: usize, channels: u32) -> bool {
     match read_document(alloc, text) {
         Ok(document) => {
             document.net.prims().len() == prims && document.net.channels() == channels
