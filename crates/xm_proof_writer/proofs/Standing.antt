@@ -129,14 +129,24 @@ module _ (known : Known) where
 
   lemma_stands : (l : Lemma) → Stands 6 (lemma_data known l)
   lemma_stands l =
-      object_stands 5 _ (string_stands 5 _, (list_stands 4 (map part_data l.parts) (each_mapped 4 part_data part_stands l.parts), (string_stands 5 _,
-      (list_stands 4 (map (term_data known) l.row.entries) (each_mapped 4 (term_data known) term_stands l.row.entries), tt))))
+      object_stands 5 _ (
+        string_stands 5 _,
+        (
+          list_stands 4 (map part_data l.parts) (each_mapped 4 part_data part_stands l.parts),
+          (
+            string_stands 5 _,
+            (list_stands 4 (map (term_data known) l.row.entries) (each_mapped 4 (term_data known) term_stands l.row.entries), tt),
+          ),
+        ),
+      )
 
   pub proof_stands : (p : Argument) → Stands 8 (proof_data known p)
   unfolding proof_data
   proof_stands p =
-      object_stands 7 _ (list_stands 6 (map (goal_data known) p.goals) (each_mapped 6 (goal_data known) goal_stands p.goals),
-      (list_stands 6 (map (lemma_data known) p.lemmas) (each_mapped 6 (lemma_data known) lemma_stands p.lemmas), tt))
+      object_stands 7 _ (
+        list_stands 6 (map (goal_data known) p.goals) (each_mapped 6 (goal_data known) goal_stands p.goals),
+        (list_stands 6 (map (lemma_data known) p.lemmas) (each_mapped 6 (lemma_data known) lemma_stands p.lemmas), tt),
+      )
 
   pub is_part : (p : Argument) → IsPart (proof_data known p)
   is_part p = let stands = proof_stands p in record { shallow = (let low = stands.low in omega arith); whole = stands.whole }

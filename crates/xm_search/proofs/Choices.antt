@@ -67,7 +67,7 @@ found_three n alternatives middle high xs ys (nothing) (one m others a b) low r 
       | inl e ↦ subst (λ (x : Inference). find_rule all x.name x.via ≡ Some x) e (hit n alternatives (one_rule m others))
       | inr t ↦ elim t [
         | inl e ↦ subst (λ (x : Inference). find_rule all x.name x.via ≡ Some x) e
-          (past n m alternatives (one_rule m others) (λ same. omega arith) ∙ hit m others [])
+            (past n m alternatives (one_rule m others) (λ same. omega arith) ∙ hit m others [])
         | inr none ↦ absurd none
       ]
     ]
@@ -77,7 +77,7 @@ found_three n alternatives middle high xs ys (one m others a b) (nothing) low r 
       | inl e ↦ subst (λ (x : Inference). find_rule all x.name x.via ≡ Some x) e (hit n alternatives (one_rule m others))
       | inr t ↦ elim t [
         | inl e ↦ subst (λ (x : Inference). find_rule all x.name x.via ≡ Some x) e
-          (past n m alternatives (one_rule m others) (λ same. omega arith) ∙ hit m others [])
+            (past n m alternatives (one_rule m others) (λ same. omega arith) ∙ hit m others [])
         | inr none ↦ absurd none
       ]
     ]
@@ -88,10 +88,10 @@ found_three n alternatives middle high xs ys (one m others a b) (one k last c d)
       | inl e ↦ subst (λ (x : Inference). find_rule all x.name x.via ≡ Some x) e (hit n alternatives rest)
       | inr t ↦ elim t [
         | inl e ↦ subst (λ (x : Inference). find_rule all x.name x.via ≡ Some x) e
-          (past n m alternatives rest (λ same. omega arith) ∙ hit m others (one_rule k last))
+            (past n m alternatives rest (λ same. omega arith) ∙ hit m others (one_rule k last))
         | inr u ↦ elim u [
           | inl e ↦ subst (λ (x : Inference). find_rule all x.name x.via ≡ Some x) e
-            (past n k alternatives rest (λ same. omega arith) ∙ past m k others (one_rule k last) (λ same. omega arith) ∙ hit k last [])
+              (past n k alternatives rest (λ same. omega arith) ∙ past m k others (one_rule k last) (λ same. omega arith) ∙ hit k last [])
           | inr none ↦ absurd none
         ]
       ]
@@ -151,7 +151,7 @@ via_hit input other (y ∷ ys) x h =
     elim (cases_Bool (nat_eq y x)) [
       | inl same ↦ cond-true (nat_eq y x) one others same ∙ ap (λ (z : ℕ). Some (via_rule input other z)) (eqb-true y x same)
       | inr differs ↦ cond-false (nat_eq y x) one others differs ∙ via_hit input other ys x
-        (elim h [ inl e ↦ absurd (let t = eq-eqb y x e in cc) | inr t ↦ t ])
+          (elim h [ inl e ↦ absurd (let t = eq-eqb y x e in cc) | inr t ↦ t ])
     ]
 
 via_found : (input other : ℕ) (xs : List ℕ) → Found (via_rules input other xs)
@@ -188,7 +188,7 @@ rule_found it (Dead c d) =
     let ps = targets it.net.prims c in
     let qs = initiators it.net.prims c in
     found_three P0 ((Stuck c ∷ []) ∷ []) 10 17 (by_one f it.net ps) (by_one g it.net qs)
-        (by_one_holds (AtMostOne 0 11) f nothing (passing_one colours c d) it.net ps) (by_one_holds (AtMostOne 10 17) g nothing (offering_one colours c d) it.net qs) (omega arith)
+    (by_one_holds (AtMostOne 0 11) f nothing (passing_one colours c d) it.net ps) (by_one_holds (AtMostOne 10 17) g nothing (offering_one colours c d) it.net qs) (omega arith)
 rule_found it (Idle c d) =
     let colours = colours_at it.colours in
     by_one_holds Found (idle_rules colours c d) (found_one 0 23 [] nothing) (idle_found colours c d) it.net (initiators it.net.prims c)

@@ -63,9 +63,11 @@ trees_refute it lemmas before (s ∷ steps) (p ∷ ps) are shut =
 refuted_more : (it : Designed) (lemmas : List Lemma) (before : List Lit) (gs : List Refutation) (g : Refutation) → GoalsRefuted it lemmas before gs →
     AllRefuted it lemmas (before ++ literals gs) g.steps ((g.lit ∷ []) ∷ []) → GoalsRefuted it lemmas before (gs ++ g ∷ [])
 refuted_more it lemmas before [] g are new = (subst (λ (l : List Lit). AllRefuted it lemmas l g.steps ((g.lit ∷ []) ∷ [])) (append-nil before) new, tt)
-refuted_more it lemmas before (h ∷ gs) g are new =
-    (are.0, refuted_more it lemmas (before ++ h.lit ∷ []) gs g are.1
-     (subst (λ (l : List Lit). AllRefuted it lemmas l g.steps ((g.lit ∷ []) ∷ [])) (sym (append_assoc before (h.lit ∷ []) (literals gs))) new))
+refuted_more it lemmas before (h ∷ gs) g are new = (
+  are.0,
+  refuted_more it lemmas (before ++ h.lit ∷ []) gs g are.1
+      (subst (λ (l : List Lit). AllRefuted it lemmas l g.steps ((g.lit ∷ []) ∷ [])) (sym (append_assoc before (h.lit ∷ []) (literals gs))) new),
+)
 
 pub finished_refuted : (it : Designed) (lemmas : List Lemma) (gs : List Refutation) (n p : ℕ) → AreFinished it lemmas gs n p → GoalsRefuted it lemmas [] gs
 finished_refuted it lemmas _ _ _ (none) = tt
@@ -97,9 +99,9 @@ module _ (it : Designed) (lemmas : List Lemma) (order : List Lit) (budget place 
       record {
         finished = subst (λ (l : List Refutation). AreFinished it lemmas l new.nodes new.pivots) (sym adds.goals)
             (subst (λ (k : ℕ). AreFinished it lemmas (refutations old ++ tree_for lit tree ∷ []) k new.pivots) (sym adds.node_count)
-             (subst (λ (k : ℕ). AreFinished it lemmas (refutations old ++ tree_for lit tree ∷ []) (old.nodes + nodes) k) (sym adds.pivot_count)
-              (one_more (refutations old) (tree_for lit tree) old.nodes nodes old.pivots pivots g.finished
-               (subst (λ (l : List Lit). IsPaidTree it lemmas l (tree_for lit tree) nodes pivots) (sym g.first) paid))));
+            (subst (λ (k : ℕ). AreFinished it lemmas (refutations old ++ tree_for lit tree ∷ []) (old.nodes + nodes) k) (sym adds.pivot_count)
+            (one_more (refutations old) (tree_for lit tree) old.nodes nodes old.pivots pivots g.finished
+            (subst (λ (l : List Lit). IsPaidTree it lemmas l (tree_for lit tree) nodes pivots) (sym g.first) paid))));
         first = first_new;
         within = let a = adds.node_count in let b = adds.pivot_count in omega arith;
       }
@@ -153,7 +155,7 @@ pub some_before : (it : Designed) (lemmas : List Lemma) (order : List Lit) (budg
     budget ≤ g.nodes + g.pivots → place < length order → 0 < length (take place order)
 some_before it lemmas order budget zero g is enough spent there =
     absurd (let lits = length-map (refutations g) (λ (r : Refutation). r.lit) in let first = ap length is.first in
-            let zeros = none_paid it lemmas (refutations g) g.nodes g.pivots is.finished (omega arith) in let a = zeros.0 in let b = zeros.1 in omega arith)
+    let zeros = none_paid it lemmas (refutations g) g.nodes g.pivots is.finished (omega arith) in let a = zeros.0 in let b = zeros.1 in omega arith)
 some_before it lemmas order budget (suc place) g is enough spent there = let k = length-take (suc place) order in omega arith
 
 -- what is found for a goal fits 64 bits, and is taken in
@@ -232,7 +234,7 @@ partial_form : (it : Designed) (lemmas : List Lemma) (order : List Lit) (gs : Li
 partial_form it lemmas order gs n p is =
     subst (AreGrown it lemmas) (sym is.goals)
     (All-push (λ (h : Refutation). are_trees 1 h.steps ≡ true) is.finished is.last (finished_form it lemmas is.finished is.done_nodes is.done_pivots is.done)
-     (trees_form it lemmas (literals is.finished) is.last.steps (root is.last.lit) is.at_work.tree.tree))
+    (trees_form it lemmas (literals is.finished) is.last.steps (root is.last.lit) is.at_work.tree.tree))
 
 -- what is of the net and grown is of the form that is read
 formed : (it : Designed) (lemmas : List Lemma) (p : Proof) → map lemma_of p.lemmas.items ≡ lemmas → length p.lemmas.items < 2 ^ 32 → length p.goals.items < 2 ^ 32 →
@@ -244,12 +246,12 @@ formed it lemmas p same few_lemmas few_goals good grown = record {
     few_goals = subst (λ (k : ℕ). k < 2 ^ 32) (sym (length-map p.goals.items refutation_of)) few_goals;
     short = All-map (λ (r : Refutation). length r.steps < 2 ^ 32) refutation_of p.goals.items
         (All-weaker (IsGoodGoal it.net) (λ (g : Goal). length (map step_of g.tree.items) < 2 ^ 32)
-         (λ g is. subst (λ (k : ℕ). k < 2 ^ 32) (sym (length-map g.tree.items step_of)) is.short) p.goals.items good);
+        (λ g is. subst (λ (k : ℕ). k < 2 ^ 32) (sym (length-map g.tree.items step_of)) is.short) p.goals.items good);
     trees = grown;
   };
   goals = All-map (IsGoalOf it.net) refutation_of p.goals.items
       (All-weaker (IsGoodGoal it.net) (λ (g : Goal). IsGoalOf it.net (refutation_of g))
-       (λ g is. record { lit = is.lit; steps = All-map (IsStepOf it.net) step_of g.tree.items is.steps }) p.goals.items good);
+      (λ g is. record { lit = is.lit; steps = All-map (IsStepOf it.net) step_of g.tree.items is.steps }) p.goals.items good);
 }
 
 -- all goals are refuted

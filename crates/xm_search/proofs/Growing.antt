@@ -51,7 +51,7 @@ kids_next path alternatives i old ps qs a kid within is items pushed so_far =
     let next : suc j ≡ length alternatives - i = omega arith in
     let there : a ≡ get_or alternatives j a = is ∙ ap (λ (n : ℕ). get_or alternatives n a) place in
     let split : drop j alternatives ≡ a ∷ drop (length alternatives - i) alternatives =
-        drop-cons alternatives j a below ∙ ap (λ (x : ListView Lit). x ∷ drop (suc j) alternatives) (sym there) ∙ ap (λ (n : ℕ). a ∷ drop n alternatives) next in
+    drop-cons alternatives j a below ∙ ap (λ (x : ListView Lit). x ∷ drop (suc j) alternatives) (sym there) ∙ ap (λ (n : ℕ). a ∷ drop n alternatives) next in
     ap (λ (l : List (ListView Lit)). stacked l []) pushed ∙ stacked_push ps kid [] ∙ ap (λ (l : List (List Lit)). kid.items ∷ l) so_far
     ∙ ap (λ (x : List Lit). x ∷ longer path (alternatives_of (drop (length alternatives - i) alternatives)) ++ old) items
     ∙ ap (λ (l : List (ListView Lit)). longer path (alternatives_of l) ++ old) (sym split)

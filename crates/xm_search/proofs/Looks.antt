@@ -69,7 +69,7 @@ module _ (it : Designed) (lemmas : List Lemma) (before path : List Lit) where
       IsConsistent it path → (HoldsGoal before path → ⊥) → EndsPath it lemmas before path (Split rule.name on rule.via kids)
   rule_ends on rule kids chosen none whole consistent no_goal =
       let left : left_by path (find_rule (rules_of it on) rule.name rule.via) ≡ [] =
-          ap (λ (o : Option Inference). left_by path o) chosen.found ∙ ap (λ (a : List (List Lit)). longer path a) none in
+      ap (λ (o : Option Inference). left_by path o) chosen.found ∙ ap (λ (a : List (List Lit)). longer path a) none in
       record {
         is = (
           record { here = chosen.here; rule = rule; found = chosen.found; whole = whole; left = ap (λ (o : Option Inference). left_by path o) (sym chosen.found) },
@@ -77,7 +77,7 @@ module _ (it : Designed) (lemmas : List Lemma) (before path : List Lit) where
             fresh = λ r is. (let e : Some rule ≡ Some r = sym chosen.found ∙ is in let f : rule ≡ r = cc in subst (λ (x : Inference). has_alternative path x.alternatives ≡ false) f chosen.fresh);
             no_clash = λ holds. both_ways (are_on_path path holds.0) (consistent holds.0 holds.1.0) holds.1.1;
             no_goal = no_goal;
-          }
+          },
         );
         last = left;
         shut = refl;
@@ -86,13 +86,13 @@ module _ (it : Designed) (lemmas : List Lemma) (before path : List Lit) where
   pub splits : (on : Lit) (rule : Inference) (kids : ℕ) → IsChosen it path on rule → length rule.alternatives ≡ kids → IsUndecided it before path →
       IsStep it lemmas before path (Split rule.name on rule.via kids)
   splits on rule kids chosen whole undecided = (
-      record { here = chosen.here; rule = rule; found = chosen.found; whole = whole; left = ap (λ (o : Option Inference). left_by path o) (sym chosen.found) },
-      record {
-        fresh = λ r is. (let e : Some rule ≡ Some r = sym chosen.found ∙ is in let f : rule ≡ r = cc in subst (λ (x : Inference). has_alternative path x.alternatives ≡ false) f chosen.fresh);
-        no_clash = undecided.no_clash;
-        no_goal = undecided.no_goal;
-      }
-    )
+    record { here = chosen.here; rule = rule; found = chosen.found; whole = whole; left = ap (λ (o : Option Inference). left_by path o) (sym chosen.found) },
+    record {
+      fresh = λ r is. (let e : Some rule ≡ Some r = sym chosen.found ∙ is in let f : rule ≡ r = cc in subst (λ (x : Inference). has_alternative path x.alternatives ≡ false) f chosen.fresh);
+      no_clash = undecided.no_clash;
+      no_goal = undecided.no_goal;
+    },
+  )
 
 no_goal_at : (path before : List Lit) (k : ℕ) (g : Lit) → any_goal path before ≡ false → slice_get before k ≡ Some g → is_on_path path g ≡ true → ⊥
 no_goal_at path [] k g none at here = cc

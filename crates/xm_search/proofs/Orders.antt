@@ -99,9 +99,9 @@ module _ (next : ℕ → List ℕ) where
       once_append inner (c ∷ left) (left_once (c ∷ seen) (next c) inner between first)
       ((λ h. left_new between visit left after c w h (still_seen next (c ∷ seen) (next c) inner between c first (inl refl))), left_once between visit left after w)
       (λ x i r. elim r [
-          | inl e ↦ left_new (c ∷ seen) (next c) inner between x first i (inl e)
-          | inr t ↦ left_new between visit left after x w t (left_seen (c ∷ seen) (next c) inner between x first i)
-        ])
+        | inl e ↦ left_new (c ∷ seen) (next c) inner between x first i (inl e)
+        | inr t ↦ left_new between visit left after x w t (left_seen (c ∷ seen) (next c) inner between x first i)
+      ])
 
   -- all that is left meets what holds of all to visit and all that comes next
   left_meets : (P : ℕ → Type 0) → ((c x : ℕ) → P c → IsIn (next c) x → P x) → (seen visit left after : List ℕ) → Walks next seen visit left after →
@@ -180,7 +180,7 @@ on_block c [] d h = absurd h
 on_block c (e ∷ ds) d h =
     elim h [
       | inl same ↦ or_left (are_same (Dead c e) (Dead c d)) (is_on_path (map (λ f. Dead c f) ds) (Dead c d))
-        (and_from (nat_eq c c) (nat_eq e d) (eq-eqb c c refl) (eq-eqb e d same))
+          (and_from (nat_eq c c) (nat_eq e d) (eq-eqb c c refl) (eq-eqb e d same))
       | inr t ↦ or_right (are_same (Dead c e) (Dead c d)) (is_on_path (map (λ f. Dead c f) ds) (Dead c d)) (on_block c ds d t)
     ]
 
@@ -198,15 +198,18 @@ module _ (it : Designed) where
       ((d : ℕ) → IsIn ds d → is_on_path before (Dead c d) ≡ true → ⊥) → AreGoals it (before ++ map (λ d. Dead c d) ds) rest →
       AreGoals it before (map (λ d. Dead c d) ds ++ rest)
   block_goals c [] before rest is of once new then = subst (λ (l : List Lit). AreGoals it l rest) (append-nil before) then
-  block_goals c (d ∷ ds) before rest is of once new then =
-      (and_from (nat_lt c it.net.channels) (has_colour (colours_at it.colours c) d) (lt-ltb c it.net.channels is) (has_from d (colours_at it.colours c) (of d (inl refl))),
-       (false_from_ne_true (is_on_path before (Dead c d)) (new d (inl refl)),
-        block_goals c ds (before ++ Dead c d ∷ []) rest is (λ e h. of e (inr h)) once.1
-        (λ e h on. elim (on_either before (Dead c d ∷ []) (Dead c e) on) [
-           | inl a ↦ new e (inr h) a
-           | inr b ↦ (let u = from_block c (d ∷ []) c e b in elim u.1 [ inl same ↦ once.0 (subst (IsIn ds) (sym same) h) | inr none ↦ none ])
-         ])
-        (subst (λ (l : List Lit). AreGoals it l rest) (sym (append_assoc before (Dead c d ∷ []) (map (λ e. Dead c e) ds))) then)))
+  block_goals c (d ∷ ds) before rest is of once new then = (
+    and_from (nat_lt c it.net.channels) (has_colour (colours_at it.colours c) d) (lt-ltb c it.net.channels is) (has_from d (colours_at it.colours c) (of d (inl refl))),
+    (
+      false_from_ne_true (is_on_path before (Dead c d)) (new d (inl refl)),
+      block_goals c ds (before ++ Dead c d ∷ []) rest is (λ e h. of e (inr h)) once.1
+          (λ e h on. elim (on_either before (Dead c d ∷ []) (Dead c e) on) [
+            | inl a ↦ new e (inr h) a
+            | inr b ↦ (let u = from_block c (d ∷ []) c e b in elim u.1 [ inl same ↦ once.0 (subst (IsIn ds) (sym same) h) | inr none ↦ none ])
+          ])
+          (subst (λ (l : List Lit). AreGoals it l rest) (sym (append_assoc before (Dead c d ∷ []) (map (λ e. Dead c e) ds))) then),
+    ),
+  )
 
   channel_goals : ((c : ℕ) → Rises (colours_at it.colours c)) → (cs : List ℕ) (before : List Lit) → ((c : ℕ) → IsIn cs c → c < it.net.channels) → Once cs →
       ((c d : ℕ) → IsIn cs c → is_on_path before (Dead c d) ≡ true → ⊥) → AreGoals it before (goals_of (colours_at it.colours) cs)
@@ -215,18 +218,18 @@ module _ (it : Designed) where
       let ds = colours_at it.colours c in
       block_goals c ds before (goals_of (colours_at it.colours) cs) (within c (inl refl)) (λ d h. h) (rise_once ds (rise c)) (λ d h on. new c d (inl refl) on)
       (channel_goals rise cs (before ++ map (λ d. Dead c d) ds) (λ e h. within e (inr h)) once.1
-       (λ e d h on. elim (on_either before (map (λ f. Dead c f) ds) (Dead e d) on) [
-          | inl a ↦ new e d (inr h) a
-          | inr b ↦ (let u = from_block c ds e d b in once.0 (subst (IsIn cs) (sym u.0) h))
-        ]))
+      (λ e d h on. elim (on_either before (map (λ f. Dead c f) ds) (Dead e d) on) [
+        | inl a ↦ new e d (inr h) a
+        | inr b ↦ (let u = from_block c ds e d b in once.0 (subst (IsIn cs) (sym u.0) h))
+      ]))
 
   is_goal : (cs : List ℕ) (c d : ℕ) → IsIn cs c → IsIn (colours_at it.colours c) d → is_on_path (goals_of (colours_at it.colours) cs) (Dead c d) ≡ true
   is_goal [] c d h of = absurd h
   is_goal (e ∷ cs) c d h of =
       elim h [
         | inl same ↦ on_left (map (λ f. Dead e f) (colours_at it.colours e)) (goals_of (colours_at it.colours) cs) (Dead c d)
-          (subst (λ (k : ℕ). is_on_path (map (λ f. Dead e f) (colours_at it.colours e)) (Dead k d) ≡ true) same
-           (on_block e (colours_at it.colours e) d (subst (λ (k : ℕ). IsIn (colours_at it.colours k) d) (sym same) of)))
+            (subst (λ (k : ℕ). is_on_path (map (λ f. Dead e f) (colours_at it.colours e)) (Dead k d) ≡ true) same
+            (on_block e (colours_at it.colours e) d (subst (λ (k : ℕ). IsIn (colours_at it.colours k) d) (sym same) of)))
         | inr t ↦ on_right (map (λ f. Dead e f) (colours_at it.colours e)) (goals_of (colours_at it.colours) cs) (Dead c d) (is_goal cs c d t of)
       ]
 
@@ -266,7 +269,7 @@ order_goals it is ls o =
     let w = o.leaving.1 in
     subst (AreGoals it []) (sym o.goals)
     (channel_goals it is.colours.rise o.channels [] (left_meets next (λ c. c < n) (λ c x low h. onward_below it.net is.net c x h) [] (range_with_len 0 n) o.channels o.leaving.0 w (λ x h. let k = in_range n 0 x h in omega arith))
-     (left_once next [] (range_with_len 0 n) o.channels o.leaving.0 w) (λ c d h on. cc))
+    (left_once next [] (range_with_len 0 n) o.channels o.leaving.0 w) (λ c d h on. cc))
 
 pub order_complete : (it : Designed) → (ls : List Lit) → IsGoalOrder it ls → all_goals ls (move_columns it) ≡ true
 order_complete it ls o =
@@ -274,8 +277,8 @@ order_complete it ls o =
     let next = onward it.net in
     subst (λ (l : List Lit). all_goals l (move_columns it) ≡ true) (sym o.goals)
     (all_pairs (goals_of (colours_at it.colours) o.channels) (colours_at it.colours) n
-     (λ c d low h. is_goal it o.channels c d
-      (elim (seen_left next [] (range_with_len 0 n) o.channels o.leaving.0 c o.leaving.1 (visit_seen next [] (range_with_len 0 n) o.channels o.leaving.0 c o.leaving.1 (range_has n 0 c (omega arith) (omega arith)))) [
-         | inl none ↦ absurd none
-         | inr t ↦ t
-       ]) h))
+    (λ c d low h. is_goal it o.channels c d
+    (elim (seen_left next [] (range_with_len 0 n) o.channels o.leaving.0 c o.leaving.1 (visit_seen next [] (range_with_len 0 n) o.channels o.leaving.0 c o.leaving.1 (range_has n 0 c (omega arith) (omega arith)))) [
+      | inl none ↦ absurd none
+      | inr t ↦ t
+    ]) h))

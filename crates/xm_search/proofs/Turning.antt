@@ -47,7 +47,7 @@ module _ (it : Designed) (lemmas : List Lemma) (before : List Lit) (goal : Lit) 
   moved steps steps_new paths paths_new n n_new p p_new a b c d g =
       subst (λ (l : List Step). Stands l paths_new n_new p_new) (sym a)
       (subst (λ (l : List (List Lit)). Stands steps l n_new p_new) (sym b)
-       (subst (λ (k : ℕ). Stands steps paths k p_new) (sym c) (subst (λ (k : ℕ). Stands steps paths n k) (sym d) g)))
+      (subst (λ (k : ℕ). Stands steps paths k p_new) (sym c) (subst (λ (k : ℕ). Stands steps paths n k) (sym d) g)))
 
   one_more_done : (old new : Growth) (step : Step) → steps_of new ≡ steps_of old ++ step ∷ [] → length new.done.items ≡ suc (length old.done.items)
   one_more_done old new step is =
@@ -59,9 +59,10 @@ module _ (it : Designed) (lemmas : List Lemma) (before : List Lit) (goal : Lit) 
     pub closed_on : (new : Growth) (step : Step) (n : ℕ) → EndsPath it lemmas before path step → IsWholeRun it lemmas path n → n ≤ left →
         Grows old step [] 0 n new → IsTurned it lemmas before goal budget (length old.done.items) (turned.On new)
     closed_on new step n ends run within grows =
-        let made = grown it lemmas before goal budget (steps_of old) path (pending old) [] old.nodes old.pivots step n (old.nodes + 0) g ends.is ends.last ends.shut run tt refl (omega arith) in
-        (moved (steps_of old ++ step ∷ []) (steps_of new) (pending old) (pending new) (old.nodes + 0) new.nodes (old.pivots + n) new.pivots grows.steps grows.paths grows.node_count grows.pivot_count made,
-         one_more_done old new step grows.steps)
+        let made = grown it lemmas before goal budget (steps_of old) path (pending old) [] old.nodes old.pivots step n (old.nodes + 0) g ends.is ends.last ends.shut run tt refl (omega arith) in (
+          moved (steps_of old ++ step ∷ []) (steps_of new) (pending old) (pending new) (old.nodes + 0) new.nodes (old.pivots + n) new.pivots grows.steps grows.paths grows.node_count grows.pivot_count made,
+          one_more_done old new step grows.steps,
+        )
 
     pub split_on : (new : Growth) (c : Chosen) → IsUndecided it before path → IsChoice it path c → Splits old path c new →
         length c.rule.alternatives.items ≤ left → IsTurned it lemmas before goal budget (length old.done.items) (turned.On new)
@@ -75,19 +76,21 @@ module _ (it : Designed) (lemmas : List Lemma) (before : List Lit) (goal : Lit) 
         let out = ap (left_by path) choice.found in
         let size : length more ≡ length rule.alternatives = length-map rule.alternatives (λ (a : List Lit). path ++ a) in
         let made = grown it lemmas before goal budget (steps_of old) path (pending old) more old.nodes old.pivots step 0 (old.nodes + kids) g is out refl (inl refl)
-            (longer_begin goal path rule.alternatives g.begin.0) (omega arith) (omega arith) in
-        (moved (steps_of old ++ step ∷ []) (steps_of new) (more ++ pending old) (pending new) (old.nodes + kids) new.nodes (old.pivots + 0) new.pivots grows.steps grows.paths grows.node_count grows.pivot_count made,
-         one_more_done old new step grows.steps)
+        (longer_begin goal path rule.alternatives g.begin.0) (omega arith) (omega arith) in (
+          moved (steps_of old ++ step ∷ []) (steps_of new) (more ++ pending old) (pending new) (old.nodes + kids) new.nodes (old.pivots + 0) new.pivots grows.steps grows.paths grows.node_count grows.pivot_count made,
+          one_more_done old new step grows.steps,
+        )
 
     stops_as : (tree : ListView Node) (nodes pivots n p m k : ℕ) → map step_of tree.items ≡ (steps_of old ++ Open ∷ []) ++ map (λ _. Open) old.leaves.items →
         nodes ≡ m → pivots ≡ k → m + k ≡ budget →
         IsAtWork it lemmas before (record { lit = goal; steps = steps_of old ++ Open ∷ opens (pending old) }) m k →
         IsGoalFound it lemmas before goal budget (found.Spent tree nodes pivots)
-    stops_as tree nodes pivots n p m k steps is_m is_k all work =
-        (subst (λ (l : List Step). IsAtWork it lemmas before (record { lit = goal; steps = l }) nodes pivots) (sym (steps ∙ stopped_steps (steps_of old) old.leaves.items))
-         (subst (λ (x : ℕ). IsAtWork it lemmas before (record { lit = goal; steps = steps_of old ++ Open ∷ opens (pending old) }) x pivots) (sym is_m)
+    stops_as tree nodes pivots n p m k steps is_m is_k all work = (
+      subst (λ (l : List Step). IsAtWork it lemmas before (record { lit = goal; steps = l }) nodes pivots) (sym (steps ∙ stopped_steps (steps_of old) old.leaves.items))
+          (subst (λ (x : ℕ). IsAtWork it lemmas before (record { lit = goal; steps = steps_of old ++ Open ∷ opens (pending old) }) x pivots) (sym is_m)
           (subst (λ (x : ℕ). IsAtWork it lemmas before (record { lit = goal; steps = steps_of old ++ Open ∷ opens (pending old) }) m x) (sym is_k) work)),
-         omega arith)
+      omega arith,
+    )
 
     pub cut_on : (f : GoalFound) → IsCut it lemmas before path left → StopsAs old 0 left f → IsGoalFound it lemmas before goal budget f
     cut_on (found.Tree tree nodes pivots) cut stops = absurd stops
@@ -114,11 +117,11 @@ module _ (it : Designed) (lemmas : List Lemma) (before : List Lit) (goal : Lit) 
     pub point_on : (c : Candidate) → c.goal ≡ goal → c.lits.items ≡ path → IsPoint it lemmas before path c.denominator c.counts.items →
         IsGoalFound it lemmas before goal budget (found.Open c)
     point_on c same on point = (
-        same,
-        subst (λ (l : List Lit). IsCandidate it lemmas goal l c.denominator c.counts.items) (sym on)
-        (record { holds_goal = goal_on goal path g.begin.0; consistent = point.consistent; answered = λ l rule here of. point.answered l here rule of; met = point.met }),
-        subst (λ (l : List Lit). HoldsGoal before l → ⊥) (sym on) point.no_goal
-      )
+      same,
+      subst (λ (l : List Lit). IsCandidate it lemmas goal l c.denominator c.counts.items) (sym on)
+          (record { holds_goal = goal_on goal path g.begin.0; consistent = point.consistent; answered = λ l rule here of. point.answered l here rule of; met = point.met }),
+      subst (λ (l : List Lit). HoldsGoal before l → ⊥) (sym on) point.no_goal,
+    )
 
   -- the root
   pub planted_on : (new : Growth) → 1 ≤ budget → new.done.items ≡ [] → pending new ≡ root goal → new.nodes ≡ 1 → new.pivots ≡ 0 → IsUnderWay it lemmas before goal budget new

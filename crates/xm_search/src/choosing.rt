@@ -76,13 +76,7 @@ fn better(best: Option<Pick>, other: Option<Pick>) -> Option<Pick>
     ensures some { IfSome result (λ p. (best ≡ Some p) ⊎ (other ≡ Some p)) }
 {
     match (best, other) {
-        (Some(p), Some(q)) => {
-            if q.live < p.live {
-                Some(q)
-            } else {
-                Some(p)
-            }
-        }
+        (Some(p), Some(q)) => { if q.live < p.live { Some(q) } else { Some(p) } }
         (Some(p), None) => Some(p),
         (None, found) => found,
     }
@@ -236,11 +230,7 @@ fn end_pick(alloc: Global, design: &Design, path: &[Lit]) -> Result<Option<Pick>
 }
 
 /// A rule of a literal of the path that has no alternatives.
-pub fn end_rule(
-    alloc: Global,
-    design: &Design,
-    path: &[Lit],
-) -> Result<Option<Chosen>, OutOfMemory>
+pub fn end_rule(alloc: Global, design: &Design, path: &[Lit]) -> Result<Option<Chosen>, OutOfMemory>
     ensures none { IfOk result (λ found. IfNone found (AllGoOn design.now path.now)) }
     ensures some { IfOk result (λ found. IfSome found (IsLastChoice design.now path.now)) }
 {

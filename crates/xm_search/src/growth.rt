@@ -6,9 +6,9 @@ ghost use Rattle.xm_proof.specs.Argument.{Open as OpenStep, step_of};
 ghost use Rattle.xm_proof.specs.Tests as tests;
 ghost use Rattle.xm_search.specs.Inner.Growing.{Grows, Splits, stacked};
 
-use std::alloc::Global;
 use crate::choosing::Chosen;
 use crate::look::split_node;
+use std::alloc::Global;
 use xm_lits::Lit;
 use xm_model::{List, OutOfMemory};
 use xm_proof::Node;
@@ -137,7 +137,9 @@ pub fn stopped(growth: Growth) -> Result<List<Node>, OutOfMemory>
         ≡ (map step_of growth.done.items ++ OpenStep ∷ []) ++ map (λ _. OpenStep) growth.leaves.items) }
 {
     let Growth {
-        mut done, leaves, ..
+        mut done,
+        leaves,
+        ..
     } = growth;
     done.push(Node::Open)?;
     push_open(&mut done, leaves.as_slice())?;

@@ -41,5 +41,5 @@ loop-on-preserved c =
           answered_next it path i (Stuck 0) c.loop-on-test.true (if_none c.in_ok-found.found c.in_ok-found.ensures.none both.1) (c.loop-on.invariant.none both.0);
       some = some_either (IsPick it path) c.better-best.result c.loop-on.best c.in_ok-found.found c.better-best.ensures.some c.loop-on.invariant.some
           (some_more (λ (p : Pick). (p.on ≡ get_or path i (Stuck 0)) × IsFresh path (rules_of it (get_or path i (Stuck 0))) p.place) (IsPick it path) c.in_ok-found.found
-           (is_pick it path i c.loop-on-test.true) c.in_ok-found.ensures.some);
+          (is_pick it path i c.loop-on-test.true) c.in_ok-found.ensures.some);
     }

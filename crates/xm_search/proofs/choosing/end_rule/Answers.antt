@@ -15,12 +15,13 @@ returns-in_ok-take_rule-in-Some-clause-some c =
     let taken = c.in_ok-take_rule-in-Some in
     let p = c.in-Some.pick in
     let pick : IsPick it path p × IsLast (rules_of it p.on) p.place =
-        subst (λ (o : Option Pick). IfSome o (λ q. IsPick it path q × IsLast (rules_of it q.on) q.place)) c.in-Some.is c.in_ok-pick.ensures.some in
+    subst (λ (o : Option Pick). IfSome o (λ q. IsPick it path q × IsLast (rules_of it q.on) q.place)) c.in-Some.is c.in_ok-pick.ensures.some in
     let rule = inference_of taken.field-0.rule in
     let same : Some pick.1.0 ≡ Some rule = sym pick.1.1.0 ∙ taken.ensures.at in
-    let one : pick.1.0 ≡ rule = cc in
-    (subst (λ (l : Lit). IsChosen it path l rule) (sym taken.ensures.on) (choice_of it path p rule pick.0 taken.ensures.at),
-     subst (λ (r : Inference). r.alternatives ≡ []) one pick.1.1.1)
+    let one : pick.1.0 ≡ rule = cc in (
+      subst (λ (l : Lit). IsChosen it path l rule) (sym taken.ensures.on) (choice_of it path p rule pick.0 taken.ensures.at),
+      subst (λ (r : Inference). r.alternatives ≡ []) one pick.1.1.1,
+    )
 
 pub returns-in-None-clause-none : goal.returns-in-None-clause-none
 returns-in-None-clause-none c =

@@ -27,6 +27,6 @@ loop-k-preserved c =
       some = some_either (λ (p : Pick). (p.on ≡ c.args.on.now) × IsFresh path (map inference_of rules) p.place) c.better-best.result c.loop-k.best c.pick_rule.result
           c.better-best.ensures.some c.loop-k.invariant.some
           (some_more (λ (p : Pick). (p.on ≡ c.args.on.now) × (p.place ≡ k) × (has_alternative path (inference_of r).alternatives ≡ false))
-           (λ (p : Pick). (p.on ≡ c.args.on.now) × IsFresh path (map inference_of rules) p.place) c.pick_rule.result
-           (λ p at. (at.0, at_place path rules k r p within is at.1 at.2)) c.pick_rule.ensures.some);
+          (λ (p : Pick). (p.on ≡ c.args.on.now) × IsFresh path (map inference_of rules) p.place) c.pick_rule.result
+          (λ p at. (at.0, at_place path rules k r p within is at.1 at.2)) c.pick_rule.ensures.some);
     }

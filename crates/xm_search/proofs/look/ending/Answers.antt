@@ -27,7 +27,7 @@ returns-in_ok-split_node-in-Some-2-clause-some c = λ lemmas.
     let consistent = if_none c.in_ok-node.field-0 c.in_ok-node.ensures.none c.in_default.is in
     let no_goal = no_goal_on path before (subst (λ (p : List Lit). any_goal p before ≡ false) c.as_slice.ensures c.in_default-cited.ensures.none) in
     let both = subst (λ (p : List Lit). IsLastChoice it p chosen) c.as_slice-2.ensures
-        (subst (λ (o : Option Chosen). IfSome o (IsLastChoice it c.as_slice-2.result.now)) c.in-Some-2.is c.in_ok-chosen.ensures.some) in
+    (subst (λ (o : Option Chosen). IfSome o (IsLastChoice it c.as_slice-2.result.now)) c.in-Some-2.is c.in_ok-chosen.ensures.some) in
     let whole = length-map chosen.rule.alternatives.items (λ (a : ListView Lit). a.items) in
     subst (EndsPath it lemmas before path) (sym c.in_ok-split_node-in-Some-2.ensures)
     (rule_ends it lemmas before path chosen.on (inference_of chosen.rule) (length chosen.rule.alternatives.items) both.0 both.1 whole consistent no_goal)
