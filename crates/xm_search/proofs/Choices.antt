@@ -1,15 +1,13 @@
 -- A rule is found by its name and colour, and what loops over rules and literals keep.
 use Rattle.std.proofs.Common.{◌≡◌, ◌≢◌, ℕ, suc, zero, ◌+◌, ◌<◌, List, [], ◌∷◌, ◌++◌, Option, Some, None, Bool, true, false, map, length, drop, get_or, refl, sym, ◌∙◌, ap, subst, arith, inl, inr, slice_get, add-one}
 use Rattle.std.specs.Prelude.{◌⊎◌, ◌&&◌, nat_eq, cond}
-use Rattle.std.proofs.lemmas.Bool.{and_parts, cases_Bool, cond-true, cond-false, eq-eqb, eqb-true, ne_eqb, or_cases, and_left}
-use Rattle.std.proofs.lemmas.List.{length-map}
+use Rattle.std.proofs.lemmas.Bool.{cases_Bool, cond-true, cond-false, eq-eqb, eqb-true, ne_eqb, and_left}
 use Rattle.std.proofs.lemmas.Option.{slice_get-map, slice_get_read}
 use Rattle.std.proofs.Math.Seq.{drop-cons}
 use Rattle.std.specs.Prelude.{IfNone, IfSome, option_map}
 use Rattle.xm_colours.specs.Family.{colours_at}
 use Rattle.xm_design.specs.Designed.{Designed}
-use Rattle.xm_lits.specs.Inference.{Inference, alternatives_of, by_one, by_prim, idle_rules, inference_of, offering_rules, one_rule, passing_rules, rule, rules_of, stuck_rules, taken_to, via_rule, via_rules, way_of}
-use Rattle.xm_lits.specs.Paths.{are_same, is_on_path}
+use Rattle.xm_lits.specs.Inference.{Inference, alternatives_of, by_one, by_prim, idle_rules, inference_of, offering_rules, one_rule, passing_rules, rule, rules_of, stuck_rules, via_rule, via_rules, way_of}
 use Rattle.xm_lits.specs.declared.inference.RuleName.{RuleName}
 use Rattle.xm_lits.specs.declared.inference.RuleName.TheVariants.{P0, I4, I6}
 use Rattle.xm_lits.specs.declared.inference.Rule.{Rule}
@@ -18,8 +16,7 @@ use Rattle.xm_lits.specs.declared.literal.Lit.TheVariants.{Stuck, Dead, Idle, Fu
 use Rattle.xm_model.specs.Component.{Component, Fork, Function, Join, Merge, Queue, Sink, Source, Switch}
 use Rattle.xm_model.specs.Membership.{IsIn}
 use Rattle.xm_model.specs.Net.{Network, initiators, targets}
-use Rattle.xm_proof.specs.Lemmas.Refuting.{lit_from}
-use Rattle.xm_proof.specs.Tests.{find_rule, is_named, name_number, same_colour}
+use Rattle.xm_proof.specs.Tests.{find_rule, is_named, name_number}
 use Rattle.xm_search.specs.Inner.Choosing.{IsChosen, IsFresh, IsLast, IsPick, all_answered, all_have}
 use Rattle.xm_search.specs.Trees.{has_alternative}
 use Rattle.xm_search.specs.declared.choosing.Pick.{Pick}

@@ -1,28 +1,28 @@
 -- A refutation by multipliers and lows closes the path.
-use Rattle.std.proofs.Common.{◌≡◌, ◌≢◌, ℕ, zero, suc, ◌+◌, ◌<◌, ◌≤◌, ◌^◌, Some, Option, List, [], ◌∷◌, ◌++◌, length, take, Bool, true, false, ◌&&◌, cond, inl, inr, refl, sym, ◌∙◌, ap, subst, arith, pos, negsuc, ℤ, ◌+ℤ◌, ◌*ℤ◌, ◌≤ℤ◌, neg_ℤ, unsigned_abs, int_eq, All, slice_get, eq-eqb, ne_eqb}
-use Rattle.std.specs.Prelude.{slice_index_or, nat_lt, nat_eq, replicate, ◌<ℤ◌}
+use Rattle.std.proofs.Common.{◌≡◌, ◌≢◌, ℕ, zero, suc, ◌+◌, ◌<◌, ◌^◌, Some, List, [], ◌∷◌, ◌++◌, length, take, Bool, true, false, ◌&&◌, cond, inl, inr, refl, sym, ◌∙◌, ap, subst, arith, pos, negsuc, ℤ, ◌+ℤ◌, ◌*ℤ◌, ◌≤ℤ◌, neg_ℤ, unsigned_abs, int_eq, slice_get, eq-eqb, ne_eqb}
+use Rattle.std.specs.Prelude.{nat_eq}
 use Rattle.std.proofs.lemmas.Bool.{cases_Bool, cases_eq, cond-true, cond-false, lt-ltb}
 use Rattle.std.proofs.lemmas.Bool.Decides.{Decides-int_eq}
 use Rattle.std.proofs.lemmas.Int.{ints}
 use Rattle.std.proofs.lemmas.List.{get_or-replicate, length-replicate}
 use Rattle.std.proofs.lemmas.List.Elements.{All-cons, All-nil}
 use Rattle.std.proofs.Math.IntN.{*ℤ-zero}
-use Rattle.xm_colours.specs.Family.{colours_at, Rises}
+use Rattle.xm_colours.specs.Family.{colours_at}
 use Rattle.xm_design.specs.Designed.{Designed, IsDesigned}
 use Rattle.xm_flow.specs.ValidLemma.{Lemma}
 use Rattle.xm_lits.specs.Inference.{has_colour}
 use Rattle.xm_lits.specs.declared.literal.Lit.{Lit}
-use Rattle.xm_lp.specs.Answer.{constraint_at, number_at, weighted}
+use Rattle.xm_lp.specs.Answer.{weighted}
 use Rattle.xm_lp.specs.Right.{Refutes}
 use Rattle.xm_lp.specs.Rule.{HasMultipliers}
 use Rattle.xm_lp.specs.Start.{constant_of, in_column}
 use Rattle.xm_lp.specs.declared.decision.Con.{Con}
-use Rattle.xm_model.specs.Component.{Component, Queue}
+use Rattle.xm_model.specs.Component.{Queue}
 use Rattle.xm_model.specs.Membership.{IsIn, times}
-use Rattle.xm_proof.specs.Lemmas.QueuePairs.{IsBelow, IsColourOf, Ordered, Pair, below_apart, below_apart_back, in_at, of_a_queue, pairs_ordered}
-use Rattle.xm_proof.specs.Sums.{Sums, add_row, all_zero, no_sums}
+use Rattle.xm_proof.specs.Lemmas.QueuePairs.{Ordered, Pair, below_apart, below_apart_back, in_at, of_a_queue, pairs_ordered}
+use Rattle.xm_proof.specs.Sums.{Sums, all_zero, no_sums}
 use Rattle.xm_proof.specs.Tests.{entries_where, entry, is_queue_pair, low_row, of_pair, only_where, queue_columns}
-use Rattle.xm_proof.specs.Valid.{AddUp, Closes, has_sign, item_row, multiplier}
+use Rattle.xm_proof.specs.Valid.{AddUp, Closes, has_sign, item_row}
 use Rattle.xm_proof.specs.declared.proof.Item.{Item}
 use Rattle.xm_proof.specs.declared.proof.Item.TheVariants as item
 use Rattle.xm_rows.specs.Lemmas.Integers.{times_one}

@@ -1,5 +1,5 @@
 -- Trees refute their goals, and goals one after another are a proof.
-use Rattle.std.proofs.Common.{◌≡◌, ℕ, suc, zero, ◌+◌, ◌≤◌, ◌<◌, List, [], ◌∷◌, ◌++◌, Some, length, map, take, get_or, refl, sym, ◌∙◌, ap, subst, append_assoc, length-append, arith, inl, inr, slice_get}
+use Rattle.std.proofs.Common.{◌≡◌, ℕ, suc, zero, ◌+◌, ◌≤◌, ◌<◌, List, [], ◌∷◌, ◌++◌, Some, length, map, take, get_or, refl, sym, ◌∙◌, ap, subst, append_assoc, length-append, arith, inl, slice_get}
 use Rattle.std.proofs.lemmas.List.{append-nil, length-map, length-take, take_more}
 use Rattle.std.proofs.Math.Seq.{take-length}
 use Rattle.std.proofs.lemmas.List.Elements.{All-map, All-nil, All-push, All-weaker}
@@ -18,14 +18,13 @@ use Rattle.xm_proof.specs.declared.proof.Goal.{Goal}
 use Rattle.xm_proof.specs.declared.proof.Node.{Node}
 use Rattle.xm_proof.specs.declared.proof.Proof.{Proof}
 use Rattle.xm_rows.specs.Row.{SparseRow}
-use Rattle.xm_search.proofs.Choices.{nothing_in}
 use Rattle.xm_search.proofs.Orders.{order_complete, order_goals}
 use Rattle.xm_search.specs.Candidate.{IsCandidate}
 use Rattle.xm_search.specs.GoalOrder.{IsGoalOrder}
 use Rattle.xm_search.specs.Inner.Formed.{IsGoodGoal}
 use Rattle.xm_search.specs.Inner.Goals.{IsFaultOn, IsGoalFound, tree_for}
 use Rattle.xm_search.specs.Inner.Progress.{Adds, FitsFound, IsHalted, IsNext, IsProgress, TakesIn, refutations}
-use Rattle.xm_search.specs.Partial.{AreFinished, IsAtWork, IsPaidTree, IsPartial, all_nodes, for_root, no_root, none, one_more}
+use Rattle.xm_search.specs.Partial.{AreFinished, IsAtWork, IsPaidTree, IsPartial, for_root, no_root, none, one_more}
 use Rattle.xm_search.specs.Pivots.{all_whole}
 use Rattle.xm_search.specs.Searched.{IsFault, IsFull, IsOfForm, IsOpen, IsSpent}
 use Rattle.xm_search.specs.Trees.{AreTrees, IsStep, kids, left_by, open_at, open_paths, root}

@@ -1,5 +1,5 @@
 -- A tree grows by one step, ends, or is stopped.
-use Rattle.std.proofs.Common.{◌≡◌, ℕ, zero, suc, ◌-◌, Some, slice_get, take, drop, get_or, ◌+◌, ◌≤◌, ◌<◌, List, [], ◌∷◌, ◌++◌, length, map, replicate, refl, sym, ◌∙◌, ap, subst}
+use Rattle.std.proofs.Common.{◌≡◌, ℕ, zero, suc, ◌-◌, Some, slice_get, take, drop, get_or, ◌+◌, ◌≤◌, ◌<◌, List, [], ◌∷◌, ◌++◌, length, map, refl, sym, ◌∙◌, ap, subst}
 use Rattle.std.proofs.Common.{append_assoc, length-append, arith, inl, inr}
 use Rattle.std.proofs.lemmas.List.{append-nil}
 use Rattle.std.proofs.Math.Seq.{drop-cons}
@@ -10,13 +10,13 @@ use Rattle.xm_lits.specs.Inference.{Inference, alternatives_of}
 use Rattle.xm_lits.specs.declared.literal.Lit.{Lit}
 use Rattle.xm_model.specs.ListView.{ListView}
 use Rattle.xm_model.specs.Membership.{IsIn}
-use Rattle.xm_proof.specs.Argument.{Open, Refutation, Step, step_of}
-use Rattle.xm_search.specs.Inner.Growing.{AllBegin, BeginsWith, IsGrown, stacked}
+use Rattle.xm_proof.specs.Argument.{Open, Step}
+use Rattle.xm_search.specs.Inner.Growing.{AllBegin, IsGrown, stacked}
 use Rattle.xm_proof.specs.Tests.{longer}
 use Rattle.xm_search.specs.Inner.Choosing.{IsChosen}
 use Rattle.xm_search.specs.Partial.{ArePaid, IsAtWork, IsPaidTree, IsUndecided, NeedsOne, NeedsSplit, all_nodes, for_pivot, for_split, paths_of, some_kids}
 use Rattle.xm_search.specs.Pivots.{AreWhole, IsRun, IsWholeRun, NeedsPivot, Run, one_cut, total}
-use Rattle.xm_search.specs.Trees.{AreTrees, IsOpenTree, IsStep, IsTree, kids, open_at, open_paths, root, step_paths}
+use Rattle.xm_search.specs.Trees.{AreTrees, IsStep, kids, open_at, open_paths, root, step_paths}
 
 -- a pushed path comes next
 pub stacked_push : (ps : List (ListView Lit)) (p : ListView Lit) (paths : List (List Lit)) → stacked (ps ++ p ∷ []) paths ≡ p.items ∷ stacked ps paths

@@ -1,19 +1,16 @@
 -- What is seen on a path: what ends it, and what is left where nothing does.
-use Rattle.std.proofs.Common.{◌≡◌, ℕ, suc, zero, ◌<◌, List, [], ◌∷◌, Option, Some, None, Bool, true, false, length, get_or, refl, sym, ◌∙◌, ap, subst, inl, inr, slice_get}
-use Rattle.std.specs.Prelude.{◌||◌}
+use Rattle.std.proofs.Common.{◌≡◌, ℕ, suc, zero, ◌<◌, List, [], ◌∷◌, Option, Some, None, true, false, length, refl, sym, ◌∙◌, ap, subst, inl, inr, slice_get}
 use Rattle.std.proofs.lemmas.Bool.{and_from, and_parts, both_ways, cases_lt, eq-eqb, or_cases, or_left, or_parts, or_right}
 use Rattle.std.proofs.lemmas.Option.{slice_get_past}
 use Rattle.xm_design.specs.Designed.{Designed}
 use Rattle.xm_flow.specs.ValidLemma.{Lemma}
-use Rattle.xm_lits.specs.Clashes.{IsClash, is_outside}
+use Rattle.xm_lits.specs.Clashes.{is_outside}
 use Rattle.xm_lits.specs.Inference.{Inference, rules_of}
 use Rattle.xm_lits.specs.Paths.{IsClashOn, are_on_path, are_same, is_on_path, opposed_to}
 use Rattle.xm_lits.specs.declared.conflict.Clash.TheVariants as conflict
-use Rattle.xm_lits.specs.declared.inference.RuleName.{RuleName}
 use Rattle.xm_lits.specs.declared.literal.Lit.{Lit}
 use Rattle.xm_lits.specs.declared.literal.Lit.TheVariants.{Stuck, Dead, Idle, Full, Has, Lacks}
-use Rattle.xm_model.specs.Membership.{IsIn}
-use Rattle.xm_proof.specs.Argument.{Cite, Clash, Eager, Split, Step, Sum}
+use Rattle.xm_proof.specs.Argument.{Cite, Clash, Split, Sum}
 use Rattle.xm_proof.specs.Lemmas.Refuting.{lit_from}
 use Rattle.xm_proof.specs.Tests.{find_rule, longer}
 use Rattle.xm_proof.specs.Valid.{Cites, Closes}

@@ -1,12 +1,12 @@
 -- What the rules of a literal of the net lead to are literals of the net.
-use Rattle.std.proofs.Common.{◌≡◌, ◌⊎◌, ℕ, ◌<◌, Bool, true, false, List, [], ◌∷◌, ◌++◌, map, All, cond, Some, None, refl, inl, inr, arith, slice_get}
+use Rattle.std.proofs.Common.{◌≡◌, ◌⊎◌, ℕ, ◌<◌, Bool, true, false, List, [], ◌∷◌, map, All, cond, Some, None, refl, inl, inr, arith, slice_get}
 use Rattle.std.specs.Prelude.{Option, nat_eq, nat_lt, slice_index}
 use Rattle.std.proofs.lemmas.List.Elements.{All-append, All-cons, All-nil}
 use Rattle.std.proofs.lemmas.Option.{get_or_from_slice_get, slice_get_within}
 use Rattle.xm_colours.specs.Family.{colours_at}
 use Rattle.xm_design.specs.Designed.{Designed}
-use Rattle.xm_lits.specs.Inference.{Inference, by_one, by_prim, dead_both, dead_one, dead_other, has_colour, idle_all, idle_join, idle_of, idle_or_dead, idle_rules, idle_where}
-use Rattle.xm_lits.specs.Inference.{lacking, map_to, offering_rules, one_of, one_rule, other_than, passed, passing_rules, rule, rules_at, rules_of, stuck_rules, taken_to, via_rule, via_rules, way_of, with_colour, without}
+use Rattle.xm_lits.specs.Inference.{Inference, by_one, by_prim, dead_one, dead_other, idle_all, idle_of, idle_rules, idle_where}
+use Rattle.xm_lits.specs.Inference.{map_to, offering_rules, one_rule, other_than, passed, passing_rules, rule, rules_of, stuck_rules, taken_to, via_rule, via_rules, way_of, with_colour, without}
 use Rattle.xm_lits.specs.declared.inference.RuleName.TheVariants.{I6}
 use Rattle.xm_lits.specs.declared.literal.Lit.{Lit}
 use Rattle.xm_lits.specs.declared.literal.Lit.TheVariants.{Dead, Full, Has, Idle, Lacks, Stuck}

@@ -1,5 +1,5 @@
 -- The order of the goals has each pair once.
-use Rattle.std.proofs.Common.{◌≡◌, ℕ, suc, zero, ◌+◌, ◌<◌, List, [], ◌∷◌, ◌++◌, Bool, true, false, length, map, refl, sym, ◌∙◌, ap, subst, append_assoc, arith, inl, inr, None, Option, Some, slice_get}
+use Rattle.std.proofs.Common.{◌≡◌, ℕ, suc, zero, ◌+◌, ◌<◌, List, [], ◌∷◌, ◌++◌, true, map, refl, sym, subst, append_assoc, arith, inl, inr, None, Option, Some, slice_get}
 use Rattle.std.specs.Prelude.{◌⊎◌, cond, nat_eq, nat_lt}
 use Rattle.std.specs.List.{range_with_len}
 use Rattle.std.proofs.lemmas.Bool.{and_from, and_parts, cases_eq, cond-true, eqb-true, eq-eqb, false_from_ne_true, lt-ltb, or_cases, or_left, or_right}
@@ -14,11 +14,9 @@ use Rattle.xm_lits.specs.declared.literal.Lit.TheVariants.{Dead}
 use Rattle.xm_model.specs.Component.{Component}
 use Rattle.xm_model.specs.Membership.{IsIn, times}
 use Rattle.xm_model.specs.Net.{IsNet, Network, targets}
-use Rattle.xm_proof.specs.Lemmas.Refuting.{lit_from}
 use Rattle.xm_proof.specs.Tests.{move_columns}
-use Rattle.xm_proof.specs.Valid.{AreGoals, all_goals, is_dead_pair}
+use Rattle.xm_proof.specs.Valid.{AreGoals, all_goals}
 use Rattle.xm_search.proofs.Choices.{in_cases}
-use Rattle.xm_search.proofs.Looks.{same_lit}
 use Rattle.xm_search.proofs.Walks.{still_seen}
 use Rattle.xm_search.proofs.Steps.{is_channel}
 use Rattle.xm_search.specs.GoalOrder.{IsGoalOrder, goals_of, onward, outputs_of, outputs_of_one}

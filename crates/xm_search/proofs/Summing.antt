@@ -1,6 +1,6 @@
 -- Named constraints, so often taken as multipliers say, add up to their weighted sums.
-use Rattle.std.proofs.Common.{◌≡◌, ◌≢◌, ℕ, zero, suc, ◌+◌, ◌<◌, ◌^◌, Some, List, [], ◌∷◌, ◌++◌, length, get_or, take, Bool, true, false, ◌&&◌, cond, inl, inr, refl, sym, ◌∙◌, ap, subst, arith, pos, negsuc, ℤ, ◌+ℤ◌, ◌*ℤ◌, ◌≤ℤ◌, unsigned_abs, int_eq, All}
-use Rattle.std.specs.Prelude.{slice_set, slice_index_or, nat_lt, nat_eq}
+use Rattle.std.proofs.Common.{◌≡◌, ◌≢◌, ℕ, suc, ◌<◌, ◌^◌, Some, List, [], ◌∷◌, ◌++◌, length, take, Bool, true, false, inl, inr, refl, sym, ◌∙◌, ap, subst, arith, pos, negsuc, ℤ, ◌+ℤ◌, ◌*ℤ◌, ◌≤ℤ◌, unsigned_abs, int_eq, All}
+use Rattle.std.specs.Prelude.{slice_set, slice_index_or}
 use Rattle.std.proofs.lemmas.Bool.{cases_Bool, cases_eq, cond-true, cond-false, lt-ltb}
 use Rattle.std.proofs.lemmas.Bool.Decides.{Decides-int_eq}
 use Rattle.std.proofs.lemmas.Int.{ints}
@@ -13,17 +13,16 @@ use Rattle.xm_lits.specs.declared.literal.Lit.{Lit}
 use Rattle.xm_lp.specs.Answer.{constraint_at, number_at, weighted}
 use Rattle.xm_lp.specs.Start.{constant_of, in_column}
 use Rattle.xm_lp.specs.declared.decision.Con.{Con}
-use Rattle.xm_proof.specs.Sums.{Sums, add_entries, add_row, fits128, is_natural, plus_product, put, with_constant}
+use Rattle.xm_proof.specs.Sums.{Sums, add_entries, add_row, fits128, is_natural, plus_product, put}
 use Rattle.xm_proof.specs.Tests.{queue_columns}
 use Rattle.xm_proof.specs.Valid.{AddUp, has_sign, item_row, multiplier}
 use Rattle.xm_proof.specs.declared.proof.Item.{Item}
 use Rattle.xm_proof.specs.declared.proof.Item.TheVariants as item
-use Rattle.xm_rows.specs.Lemmas.Entries.{coefficient_absent, first_coefficient, later_coefficient, other_column, own_column, rising_above, rising_tail}
+use Rattle.xm_rows.specs.Lemmas.Entries.{coefficient_absent, first_coefficient, later_coefficient, rising_above, rising_tail}
 use Rattle.std.proofs.lemmas.List.Elements.{All-weaker}
-use Rattle.xm_rows.specs.Lemmas.Integers.{distrib}
 use Rattle.xm_rows.specs.Row.{Fits128, IsRising, IsRow, SparseRow, coefficient}
 use Rattle.xm_rows.specs.declared.row.Entry.{Entry}
-use Rattle.xm_search.specs.Inner.Named.{AllNamed, Names, is_lemma}
+use Rattle.xm_search.specs.Inner.Named.{AllNamed, is_lemma}
 use Rattle.xm_search.specs.Inner.Taken.{all_taken, taken}
 
 abbrev pub number : List ℤ → ℕ → ℤ

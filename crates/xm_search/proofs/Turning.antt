@@ -9,14 +9,14 @@ use Rattle.xm_lits.specs.Paths.{are_same, is_on_path}
 use Rattle.xm_lits.specs.declared.literal.Lit.{Lit}
 use Rattle.xm_model.specs.ListView.{ListView}
 use Rattle.xm_proof.specs.Argument.{Open, Split, Step, step_of}
-use Rattle.xm_proof.specs.Tests.{find_rule, longer}
+use Rattle.xm_proof.specs.Tests.{longer}
 use Rattle.xm_proof.specs.declared.proof.Node.{Node}
 use Rattle.xm_search.proofs.Choices.{nothing_in}
-use Rattle.xm_search.proofs.Growing.{ended, grown, halted_by_pivot, halted_by_split, halted_steps, opens, planted, stopped_steps}
+use Rattle.xm_search.proofs.Growing.{ended, grown, halted_by_pivot, halted_by_split, opens, planted, stopped_steps}
 use Rattle.xm_search.proofs.Looks.{same_lit, splits}
 use Rattle.xm_search.specs.Candidate.{IsCandidate}
 use Rattle.xm_search.specs.Inner.Choosing.{IsChoice}
-use Rattle.xm_search.specs.Inner.Goals.{IsGoalFound, IsTurned, SplitsOrStops, StopsAs, tree_for}
+use Rattle.xm_search.specs.Inner.Goals.{IsGoalFound, IsTurned, SplitsOrStops, StopsAs}
 use Rattle.xm_search.specs.Inner.Growing.{AllBegin, BeginsWith, Grows, IsGrown, IsUnderWay, Splits, pending, stacked, steps_of}
 use Rattle.xm_search.specs.Inner.Looking.{EndsPath, IsCut, IsPoint}
 use Rattle.xm_search.specs.Partial.{IsAtWork, IsUndecided}

@@ -1,5 +1,5 @@
 -- Candidates of a deadlock: literals and packets among which no refutation can end.
-use Rattle.std.specs.Prelude.{◌≡◌, List, Bool, true, false, length, ℤ}
+use Rattle.std.specs.Prelude.{◌≡◌, List, true, false, length, ℤ}
 use Rattle.xm_design.specs.Designed.{Designed}
 use Rattle.xm_flow.specs.ValidLemma.{Lemma}
 use Rattle.xm_lits.specs.Clashes.{IsClash}

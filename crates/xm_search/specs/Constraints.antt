@@ -1,5 +1,5 @@
 -- What a path says of the packets in queues, as constraints over the queue pairs.
-use Rattle.std.specs.Prelude.{ℕ, suc, List, [], ◌∷◌, ◌++◌, Option, Some, None, true, false, cond, map, slice_get}
+use Rattle.std.specs.Prelude.{ℕ, suc, List, [], ◌∷◌, ◌++◌, Option, Some, None, true, false, cond, map}
 use Rattle.xm_design.specs.Designed.{Designed}
 use Rattle.xm_flow.specs.ValidLemma.{Lemma}
 use Rattle.xm_lits.specs.declared.literal.Lit.{Lit}

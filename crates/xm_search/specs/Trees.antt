@@ -7,7 +7,7 @@ use Rattle.xm_lits.specs.Inference.{Inference, rules_of}
 use Rattle.xm_lits.specs.Paths.{are_on_path}
 use Rattle.xm_lits.specs.declared.inference.RuleName.{RuleName}
 use Rattle.xm_lits.specs.declared.literal.Lit.{Lit}
-use Rattle.xm_proof.specs.Argument.{Argument, Cite, Clash, Eager, Open, Refutation, Split, Step, Sum}
+use Rattle.xm_proof.specs.Argument.{Open, Refutation, Split, Step}
 use Rattle.xm_proof.specs.Tests.{find_rule, longer}
 use Rattle.xm_proof.specs.Valid.{Cites, Refutes}
 

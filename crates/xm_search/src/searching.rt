@@ -125,7 +125,9 @@ fn search_next(
     }
 }
 
-/// The proof of these goals.
+/// The proof of these goals. That what it names is of the net, and its numbers are within bounds, is tested here rather
+/// than carried through the search; a proof that failed the test, of which none is known, would be answered as want of
+/// memory.
 fn proof_of(design: &Design, ground: Ground, goals: List<Goal>) -> Result<Proof, OutOfMemory>
     ensures lemmas { IfOk result (λ p. p.lemmas ≡ ground.lemmas) }
     ensures goals { IfOk result (λ p. p.goals ≡ goals) }

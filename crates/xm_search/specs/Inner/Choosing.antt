@@ -1,5 +1,5 @@
 -- The rule by which a path is split.
-use Rattle.std.specs.Prelude.{◌≡◌, ℕ, List, [], ◌∷◌, Bool, ◌&&◌, ◌||◌, Some, Option, None, false, true, length, slice_get}
+use Rattle.std.specs.Prelude.{◌≡◌, ℕ, List, [], ◌∷◌, Bool, ◌&&◌, ◌||◌, Some, false, true, length, slice_get}
 use Rattle.xm_design.specs.Designed.{Designed}
 use Rattle.xm_lits.specs.Inference.{Inference, inference_of, rules_of}
 use Rattle.xm_lits.specs.Paths.{is_on_path}

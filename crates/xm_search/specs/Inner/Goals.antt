@@ -3,7 +3,7 @@ use Rattle.std.specs.Prelude.{◌≡◌, ℕ, suc, ◌+◌, ◌<◌, ◌≤◌, 
 use Rattle.xm_design.specs.Designed.{Designed}
 use Rattle.xm_flow.specs.ValidLemma.{Lemma}
 use Rattle.xm_lits.specs.declared.literal.Lit.{Lit}
-use Rattle.xm_proof.specs.Argument.{Open, Refutation, Step, step_of}
+use Rattle.xm_proof.specs.Argument.{Open, Refutation, step_of}
 use Rattle.xm_proof.specs.declared.proof.Node.{Node}
 use Rattle.xm_search.specs.Candidate.{IsCandidate}
 use Rattle.xm_search.specs.Inner.Growing.{BeginsWith, IsUnderWay, Splits, steps_of}

@@ -5,7 +5,6 @@ use Rattle.xm_flow.specs.ValidLemma.{Lemma}
 use Rattle.xm_lits.specs.Repeating.{capacity_at}
 use Rattle.xm_lits.specs.declared.literal.Lit.{Lit}
 use Rattle.xm_lits.specs.declared.literal.Lit.TheVariants.{Full, Has, Lacks}
-use Rattle.xm_lp.specs.Start.{AreBelow}
 use Rattle.xm_lp.specs.declared.decision.Con.{Con}
 use Rattle.xm_proof.specs.Tests.{entries_where, of_pair, of_queue, queue_columns}
 use Rattle.xm_proof.specs.Valid.{item_row, of_a_queue}

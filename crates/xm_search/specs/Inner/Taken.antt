@@ -1,5 +1,5 @@
 -- The items of a sum, so often taken as multipliers say, and what the tableau says of named constraints.
-use Rattle.std.specs.Prelude.{◌≡◌, ℕ, ◌≤◌, List, [], ◌∷◌, cond, ℤ, pos}
+use Rattle.std.specs.Prelude.{ℕ, ◌≤◌, List, [], ◌∷◌, cond, ℤ, pos}
 use Rattle.std.specs.Ordering.{int_eq}
 use Rattle.xm_design.specs.Designed.{Designed}
 use Rattle.xm_flow.specs.ValidLemma.{Lemma}

@@ -2,7 +2,7 @@ use Rattle.std.proofs.Common.{ℕ, ℤ, ◌++◌, List, ap, sym, subst, ◌∙�
 use Rattle.xm_lp.specs.Right.{IsRight, Refutes}
 use Rattle.xm_lp.specs.Rule.{Follows, HasMultipliers}
 use Rattle.xm_lp.specs.declared.decision.Decision.{Decision}
-use Rattle.std.specs.Prelude.{Ok, Result, length}
+use Rattle.std.specs.Prelude.{Ok, length}
 use Rattle.xm_proof.specs.Valid.{Closes}
 use Rattle.xm_proof.specs.declared.proof.Item.{Item}
 use Rattle.xm_search.specs.Inner.Taken.{all_taken, lows_taken}

@@ -1,8 +1,6 @@
-use Rattle.std.proofs.Common.{◌≡◌, [], sym, subst}
-use Rattle.xm_flow.specs.ValidLemma.{Lemma}
+use Rattle.std.proofs.Common.{subst}
 use Rattle.xm_search.specs.Inner.Taken.{ClosesBy}
 use Rattle.xm_search.specs.declared.ask.Answer.{Answer}
-use Rattle.xm_search.specs.Inner.Named.{AreNamed, AreShared}
 use Rattle.xm_search.proofs.Naming.{none_named}
 use Rattle.xm_search.proofs.ask.near_sum.Goals as goal
 

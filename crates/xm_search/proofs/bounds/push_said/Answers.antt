@@ -1,4 +1,4 @@
-use Rattle.std.proofs.Common.{◌≡◌, ◌<◌, List, Some, length, refl, ap, sym, subst, ◌∙◌, All}
+use Rattle.std.proofs.Common.{◌≡◌, List, Some, refl, ap, sym, ◌∙◌}
 use Rattle.xm_proof.specs.Tests.{queue_columns}
 use Rattle.xm_search.specs.Inner.Named.{row_said}
 use Rattle.xm_search.proofs.Naming.{Pair, path_row, said_below}

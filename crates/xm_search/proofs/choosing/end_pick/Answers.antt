@@ -1,4 +1,4 @@
-use Rattle.std.proofs.Common.{◌≡◌, ℕ, get_or, Option, subst}
+use Rattle.std.proofs.Common.{ℕ, get_or, Option, subst}
 use Rattle.std.specs.Prelude.{IfSome}
 use Rattle.std.proofs.lemmas.Option.{slice_get-get_or}
 use Rattle.xm_lits.specs.Inference.{rules_of}

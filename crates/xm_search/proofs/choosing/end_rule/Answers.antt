@@ -1,4 +1,4 @@
-use Rattle.std.proofs.Common.{◌≡◌, List, [], Option, Some, subst, sym, false, ap, ◌∙◌}
+use Rattle.std.proofs.Common.{◌≡◌, [], Option, Some, subst, sym, false, ◌∙◌}
 use Rattle.std.specs.Prelude.{IfNone, IfSome}
 use Rattle.xm_lits.specs.Inference.{Inference, inference_of, rules_of}
 use Rattle.xm_lits.specs.declared.literal.Lit.{Lit}

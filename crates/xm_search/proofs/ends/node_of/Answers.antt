@@ -1,4 +1,4 @@
-use Rattle.std.proofs.Common.{◌<◌, get_or, length, subst}
+use Rattle.std.proofs.Common.{get_or, subst}
 use Rattle.std.proofs.lemmas.Option.{slice_get-get_or, slice_get_within}
 use Rattle.xm_lits.specs.Paths.{IsClashOn}
 use Rattle.xm_lits.specs.declared.conflict.Clash.{Clash}

@@ -1,4 +1,3 @@
-use Rattle.std.proofs.Common.{length}
 use Rattle.xm_search.proofs.Turning.{ended_on, planted_on}
 use Rattle.xm_search.specs.Inner.Ground.{lemmas_of}
 use Rattle.xm_search.proofs.goal.search_goal.Goals as goal

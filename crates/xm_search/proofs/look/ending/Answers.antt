@@ -1,10 +1,10 @@
 use Rattle.std.proofs.Common.{◌≡◌, List, Option, length, subst, sym, false}
 use Rattle.std.proofs.lemmas.List.{length-map}
-use Rattle.std.specs.Prelude.{IfNone, IfSome}
+use Rattle.std.specs.Prelude.{IfSome}
 use Rattle.xm_lits.specs.Inference.{inference_of}
 use Rattle.xm_lits.specs.declared.literal.Lit.{Lit}
 use Rattle.xm_model.specs.ListView.{ListView}
-use Rattle.xm_proof.specs.Argument.{Step, step_of}
+use Rattle.xm_proof.specs.Argument.{step_of}
 use Rattle.xm_proof.specs.declared.proof.Node.{Node}
 use Rattle.xm_search.proofs.Choices.{if_none}
 use Rattle.xm_search.proofs.Looks.{no_goal_on, rule_ends, undecided}

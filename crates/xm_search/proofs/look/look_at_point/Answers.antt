@@ -3,7 +3,6 @@ use Rattle.xm_search.proofs.Looks.{sum_ends}
 use Rattle.xm_search.specs.Constraints.{constraints}
 use Rattle.xm_search.specs.Inner.Ground.{lemmas_of}
 use Rattle.xm_search.specs.Inner.Taken.{ClosesBy, IsDone, Says}
-use Rattle.xm_search.specs.declared.ask.Answer.{Answer}
 use Rattle.xm_search.proofs.look.look_at_point.Goals as goal
 
 pub returns-in-Sum : goal.returns-in-Sum

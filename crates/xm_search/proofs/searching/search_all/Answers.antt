@@ -2,7 +2,6 @@ use Rattle.std.proofs.Common.{◌≡◌, ℕ, length, refl, subst, arith}
 use Rattle.xm_search.proofs.Finishing.{started}
 use Rattle.xm_search.specs.Inner.Ground.{lemmas_of}
 use Rattle.xm_search.specs.Inner.Progress.{IsNext, IsProgress}
-use Rattle.xm_search.specs.declared.searching.Next.{Next}
 use Rattle.xm_search.proofs.searching.search_all.Goals as goal
 
 pub loop-place-init : goal.loop-place-init

@@ -1,4 +1,4 @@
-use Rattle.std.proofs.Common.{◌≡◌, ◌<◌, get_or, ap, arith, ◌^◌}
+use Rattle.std.proofs.Common.{◌<◌, get_or, ap, arith, ◌^◌}
 use Rattle.std.proofs.lemmas.List.{get_or_default}
 use Rattle.std.proofs.lemmas.Option.{slice_get-get_or}
 use Rattle.xm_lits.specs.declared.literal.Lit.TheVariants.{Stuck}
