@@ -1,6 +1,5 @@
 //! A suite for each layer, and what they build on: nets as tables, and names.
 
-mod boards;
 mod colours;
 mod cycles;
 mod decisions;
