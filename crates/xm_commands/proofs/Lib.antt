@@ -1,3 +1,4 @@
+mod Budgets
 mod Calls
 mod Checked
 mod OneAnswer
@@ -5,6 +6,7 @@ mod OneBasis
 mod OneColours
 mod OneText
 mod Printed
+mod Proving
 mod Ran
 mod Refusing
 mod Rounds

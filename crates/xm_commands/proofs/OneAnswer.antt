@@ -1,5 +1,5 @@
 -- One answer for given bytes: one output, no output of what is refused, one refusal but for its loop.
-use Rattle.std.proofs.Common.{◌≡◌, ℕ, List, [], length, Result, Ok, Err, refl, sym, ap, ap₂, ◌∙◌, inl, inr, subst, arith}
+use Rattle.std.proofs.Common.{◌≡◌, ℕ, true, false, List, [], length, Result, Ok, Err, refl, sym, ap, ap₂, ◌∙◌, inl, inr, subst, arith}
 use Rattle.std.proofs.Common.{◌⊎◌}
 use Rattle.std.proofs.lemmas.Bool.{cases_order}
 use Rattle.serde_json.specs.Data.{Data}
@@ -10,9 +10,9 @@ use Rattle.xm_check.specs.Laws.{OneVerdict}
 use Rattle.xm_commands.proofs.OneBasis.{not_both_ends, same_overflow, same_pairs, same_proof, same_said, same_sets, same_text}
 use Rattle.xm_commands.proofs.OneColours.{same_first}
 use Rattle.xm_commands.proofs.OneText.{same_text as same_run_text}
-use Rattle.xm_commands.specs.OneAnswer.{NamesLoop, NoOutputOfRefused, OneOutput, OneRefusal}
-use Rattle.xm_commands.specs.Output.{AreInvariants, IsDesignOf, IsOutput, IsVerdictOf, of_check, of_inv, of_run, of_verify, outcome_of, proof_of}
-use Rattle.xm_commands.specs.Refusal.{AsksForFlow, HasProof, Refuses, document_status, of_colour, of_document, of_form, of_loop, of_overflow, of_persistency, of_tape, of_width}
+use Rattle.xm_commands.specs.OneAnswer.{NamesLoop, NoOutputOfRefused, OneOutput, OneRefusal, has_one_output, may_differ}
+use Rattle.xm_commands.specs.Output.{AreInvariants, IsDesignOf, IsOutput, IsVerdictOf, of_check, of_inv, of_prove, of_run, of_verify, outcome_of, proof_of}
+use Rattle.xm_commands.specs.Refusal.{AsksForFlow, AsksForInvariants, AsksForRights, HasProof, Refuses, document_status, of_colour, of_document, of_form, of_loop, of_overflow, of_persistency, of_pivots, of_tape, of_width}
 use Rattle.xm_commands.specs.declared.command.Command.{Command}
 use Rattle.xm_commands.specs.declared.command.Command.TheVariants as command
 use Rattle.xm_commands.specs.declared.command.Outcome.{Outcome}
@@ -99,23 +99,24 @@ run_texts one_run doc design tape text other is channels a b =
 abbrev pub Same : Outcome → Outcome → List ℕ → List ℕ → Type 0
 Same turned other_turned text other = (turned ≡ other_turned) × (text ≡ other)
 
-pub outputs : OneRun → OneEnd → OneVerdict → {bytes : List ℕ} {it : Command} {turned other_turned : Outcome} {text other : List ℕ} → IsOutput bytes it turned text → IsOutput bytes it other_turned other → Same turned other_turned text other
-outputs one_run one_end one_verdict {bytes = bytes} (of_check doc a read is_a) (of_check other b read' is_b) =
+pub outputs : OneRun → OneEnd → OneVerdict → {bytes : List ℕ} {it : Command} {turned other_turned : Outcome} {text other : List ℕ} → has_one_output it ≡ true → IsOutput bytes it turned text → IsOutput bytes it other_turned other → Same turned other_turned text other
+outputs one_run one_end one_verdict {bytes = bytes} determined (of_check doc a read is_a) (of_check other b read' is_b) =
     let same = one_document bytes doc other read read' in
     (refl, check_texts doc a b is_a (design_of bytes other doc b read' read is_b) ∙ ap (λ (x : Doc). check_text x.names b) same)
-outputs one_run one_end one_verdict {bytes = bytes} {text = text} {other = said} (of_run doc a tape _ read is_a taped run) (of_run other b tape' _ read' is_b taped' run') =
+outputs one_run one_end one_verdict {bytes = bytes} {text = text} {other = said} determined (of_run doc a tape _ read is_a taped run) (of_run other b tape' _ read' is_b taped' run') =
     let same = one_document bytes other doc read' read in
     let again = subst (λ (x : Doc). tape_in x.net x.tape ≡ Ok tape') same taped' in
     let tapes : tape' ≡ tape = cc in
     let run'' = subst (λ (t : Taped). IsTextOfRun doc.net doc.names t said) tapes (subst (λ (x : Doc). IsTextOfRun x.net x.names tape' said) same run') in
     (refl, run_texts one_run doc a tape text said is_a (channels_named bytes doc read) run run'')
-outputs one_run one_end one_verdict {bytes = bytes} (of_inv doc a ls read is_a p) (of_inv other b ks read' is_b q) =
+outputs one_run one_end one_verdict {bytes = bytes} determined (of_inv doc a ls read is_a p) (of_inv other b ks read' is_b q) =
     let same = one_document bytes doc other read read' in
     (refl, same_text doc a b is_a (design_of bytes other doc b read' read is_b) one_end ls ks p q ∙ ap (λ (x : Doc). invariant_text x.names b ks) same)
-outputs one_run one_end one_verdict {bytes = bytes} (of_verify doc a v read is_a p) (of_verify other b w read' is_b q) =
+outputs one_run one_end one_verdict {bytes = bytes} determined (of_verify doc a v read is_a p) (of_verify other b w read' is_b q) =
     let same = one_document bytes other doc read' read in
     let said = same_said doc a b is_a (design_of bytes other doc b read' read is_b) one_verdict v w p (subst (λ (x : Doc). IsVerdictOf x b w) same q) in
     (ap outcome_of said, ap verdict_text said)
+outputs one_run one_end one_verdict determined (of_prove _ _ _ _ _ _ _ _ _ _) (of_prove _ _ _ _ _ _ _ _ _ _) = absurd cc
 
 -- ---- what is refused has no design, or no tape
 
@@ -140,6 +141,7 @@ has_design (of_check doc design read is) = record { doc = doc; design = design; 
 has_design (of_run doc design tape text read is taped run) = record { doc = doc; design = design; read = read; is = is }
 has_design (of_inv doc design lemmas read is are) = record { doc = doc; design = design; read = read; is = is }
 has_design (of_verify doc design said read is it) = record { doc = doc; design = design; read = read; is = is }
+has_design (of_prove doc design budget lemmas turned text read is searched found) = record { doc = doc; design = design; read = read; is = is }
 
 record HasTape (bytes : List ℕ) : Type 0 where
   doc : Doc
@@ -157,9 +159,6 @@ record HasInvariants (bytes : List ℕ) : Type 0 where
   read : document_in bytes ≡ Ok doc
   is : IsDesignOf doc design
   are : AreInvariants design lemmas
-
-has_invariants : {bytes text : List ℕ} {turned : Outcome} → IsOutput bytes command.Inv turned text → HasInvariants bytes
-has_invariants (of_inv doc design lemmas read is are) = record { doc = doc; design = design; lemmas = lemmas; read = read; is = is; are = are }
 
 record HasVerdict (bytes : List ℕ) : Type 0 where
   doc : Doc
@@ -183,6 +182,28 @@ narrow {bytes = bytes} doc design asks read is (of_inv other b _ read' is_b are)
 narrow {bytes = bytes} doc design asks read is (of_verify other b _ read' is_b said) =
     let pairs = same_pairs doc b design (design_of bytes other doc b read' read is_b) is in
     omega (arith, pairs, said.has_flow.narrow)
+narrow {bytes = bytes} doc design asks read is (of_prove other b _ _ _ _ read' is_b searched _) =
+    let pairs = same_pairs doc b design (design_of bytes other doc b read' read is_b) is in
+    omega (arith, pairs, searched.invariants.has_flow.narrow)
+
+-- a command that asks for rights and has an output found that they are granted
+granted : {bytes : List ℕ} {it : Command} {turned : Outcome} {text : List ℕ} (doc : Doc) (design : Designed) → AsksForRights it doc design → document_in bytes ≡ Ok doc → IsDesignOf doc design → IsOutput bytes it turned text
+    → AllGranted design.net
+granted doc design asks read is (of_check _ _ _ _) = absurd asks
+granted doc design asks read is (of_run _ _ _ _ _ _ _ _) = absurd asks
+granted doc design asks read is (of_inv _ _ _ _ _ _) = absurd asks
+granted {bytes = bytes} doc design asks read is (of_verify other b _ read' is_b said) =
+    subst AllGranted ((design_of bytes other doc b read' read is_b).net ∙ sym is.net) said.granted
+granted {bytes = bytes} doc design asks read is (of_prove other b _ _ _ _ read' is_b searched _) =
+    subst AllGranted ((design_of bytes other doc b read' read is_b).net ∙ sym is.net) searched.granted
+
+-- a command that asks for invariants and has one output found them
+invariants : {bytes : List ℕ} {it : Command} {turned : Outcome} {text : List ℕ} (design : Designed) → AsksForInvariants it design → may_differ it 8 ≡ false → IsOutput bytes it turned text → HasInvariants bytes
+invariants design asks same (of_check _ _ _ _) = absurd asks
+invariants design asks same (of_run _ _ _ _ _ _ _ _) = absurd asks
+invariants design asks same (of_inv doc b lemmas read is are) = record { doc = doc; design = b; lemmas = lemmas; read = read; is = is; are = are }
+invariants design asks same (of_verify _ _ _ _ _ _) = absurd asks
+invariants design asks same (of_prove _ _ _ _ _ _ _ _ _ _) = absurd cc
 
 -- what was said of a proof is of the other document, which is the same
 said_of : {bytes : List ℕ} (doc : Doc) → document_in bytes ≡ Ok doc → (has : HasVerdict bytes) → IsVerdictOf doc has.design has.said × IsDesignOf doc has.design
@@ -190,33 +211,30 @@ said_of {bytes = bytes} doc read has =
     let same = one_document bytes has.doc doc has.read read in
     (subst (λ (x : Doc). IsVerdictOf x has.design has.said) same has.verdict, design_of bytes has.doc doc has.design has.read read has.is)
 
-pub excludes : NoLoop → ExclusiveEnds → {bytes : List ℕ} {it : Command} {status : ℕ} {turned : Outcome} {line text : List ℕ} → Refuses bytes it status line → IsOutput bytes it turned text → ⊥
-excludes none exclusive (of_document fault failed) is = (let has = has_design is in let read = has.read in cc)
-excludes none exclusive {bytes = bytes} (of_colour doc c d read refused) is =
+pub excludes : NoLoop → ExclusiveEnds → {bytes : List ℕ} {it : Command} {status : ℕ} {turned : Outcome} {line text : List ℕ} → may_differ it status ≡ false → Refuses bytes it status line → IsOutput bytes it turned text → ⊥
+excludes none exclusive same (of_document fault failed) is = (let has = has_design is in let read = has.read in cc)
+excludes none exclusive {bytes = bytes} same (of_colour doc c d read refused) is =
     let has = has_design is in
     colour_excluded doc has.design c d (design_of bytes has.doc doc has.design has.read read has.is) refused
-excludes none exclusive {bytes = bytes} (of_loop doc loop read refused) is =
+excludes none exclusive {bytes = bytes} same (of_loop doc loop read refused) is =
     let has = has_design is in
     loop_excluded none doc has.design loop (design_of bytes has.doc doc has.design has.read read has.is) refused
-excludes none exclusive {bytes = bytes} (of_tape doc design fault read made failed) is =
+excludes none exclusive {bytes = bytes} same (of_tape doc design fault read made failed) is =
     let has = has_tape is in
     let taped = subst (λ (x : Doc). tape_in x.net x.tape ≡ Ok has.tape) (one_document bytes has.doc doc has.read read) has.taped in
     cc
-excludes none exclusive (of_form doc design path read made failed) is =
+excludes none exclusive same (of_form doc design path read made failed) is =
     let has = has_verdict is in
     let said = said_of doc read has in
     let proof = same_proof doc has.design design said.1 made in
     let found = said.0.proof in
     cc
-excludes none exclusive (of_persistency doc design c read made proof first) is =
-    let has = has_verdict is in
-    let said = said_of doc read has in
-    let granted = subst AllGranted (said.1.net ∙ sym made.net) said.0.granted in
-    first.ungranted (granted c first.is_channel)
-excludes none exclusive (of_width doc design read made asks wide) is = let few = narrow doc design asks read made is in absurd (omega (arith, wide, few))
-excludes none exclusive {bytes = bytes} (of_overflow doc design flow r s column read made rows meets) is =
-    let has = has_invariants is in
+excludes none exclusive same (of_persistency doc design c read made asks first) is = first.ungranted (granted doc design asks read made is c first.is_channel)
+excludes none exclusive same (of_width doc design read made asks wide) is = let few = narrow doc design asks read made is in absurd (omega (arith, wide, few))
+excludes none exclusive {bytes = bytes} same (of_overflow doc design flow r s column read made asks rows meets) is =
+    let has = invariants design asks same is in
     not_both_ends doc has.design design (design_of bytes has.doc doc has.design has.read read has.is) made exclusive has.lemmas flow r s column has.are rows meets
+excludes none exclusive same (of_pivots doc design budget lemmas path pivots read made searched leaves) is = absurd cc
 
 -- ---- one refusal
 
@@ -238,7 +256,8 @@ designed (of_tape doc design fault read made failed) = Some (record { doc = doc;
 designed (of_form doc design path read made failed) = Some (record { doc = doc; design = design; read = read; is = made })
 designed (of_persistency doc design c read made proof first) = Some (record { doc = doc; design = design; read = read; is = made })
 designed (of_width doc design read made asks wide) = Some (record { doc = doc; design = design; read = read; is = made })
-designed (of_overflow doc design flow r s column read made rows meets) = Some (record { doc = doc; design = design; read = read; is = made })
+designed (of_overflow doc design flow r s column read made asks rows meets) = Some (record { doc = doc; design = design; read = read; is = made })
+designed (of_pivots doc design budget lemmas path pivots read made searched leaves) = Some (record { doc = doc; design = design; read = read; is = made })
 
 -- where there is a design no refusal is for want of one
 undesigned : NoLoop → {bytes : List ℕ} {it : Command} {status : ℕ} {line : List ℕ} (p : Refuses bytes it status line) → designed p ≡ None → HasDesign bytes → ⊥
@@ -249,7 +268,8 @@ undesigned none (of_tape doc design fault read made failed) e has = absurd cc
 undesigned none (of_form doc design path read made failed) e has = absurd cc
 undesigned none (of_persistency doc design c read made proof first) e has = absurd cc
 undesigned none (of_width doc design read made asks wide) e has = absurd cc
-undesigned none (of_overflow doc design flow r s column read made rows meets) e has = absurd cc
+undesigned none (of_overflow doc design flow r s column read made asks rows meets) e has = absurd cc
+undesigned none (of_pivots doc design budget lemmas path pivots read made searched leaves) e has = absurd cc
 
 -- two refusals of what has no design
 both_undesigned : {bytes : List ℕ} {it : Command} {status other : ℕ} {line said : List ℕ} (p : Refuses bytes it status line) (q : Refuses bytes it other said) → designed p ≡ None → designed q ≡ None
@@ -301,69 +321,95 @@ module _ (bytes : List ℕ) (doc other : Doc) (a b : Designed) (read : document_
       let here = subst (λ (net : Network). IsFirstUngranted net e) (other_of.net ∙ sym is_a.net) first' in
       ap₂ (λ (x : Doc) (i : ℕ). persistency_line x.names i) (sym same_doc) (one_ungranted a.net c e first here)
 
+-- a command that asks for flow rows was granted the rights that it asks for
+rights_granted : (it : Command) (doc other : Doc) (a b : Designed) → AsksForRights it doc a → AsksForFlow it other b → AllGranted b.net
+rights_granted command.Check doc other a b rights flow = absurd rights
+rights_granted command.Run doc other a b rights flow = absurd rights
+rights_granted command.Inv doc other a b rights flow = absurd rights
+rights_granted command.Verify doc other a b rights flow = flow.1
+rights_granted (command.Prove budget) doc other a b rights flow = flow
+
+-- no command but `prove` asks for rights and for invariants
+not_both_asked : (it : Command) (doc : Doc) (a b : Designed) → has_one_output it ≡ true → AsksForRights it doc a → AsksForInvariants it b → ⊥
+not_both_asked command.Check doc a b one rights asks = rights
+not_both_asked command.Run doc a b one rights asks = rights
+not_both_asked command.Inv doc a b one rights asks = rights
+not_both_asked command.Verify doc a b one rights asks = asks
+not_both_asked (command.Prove budget) doc a b one rights asks = absurd cc
+
 -- two refusals of what has a design
-both_designed : OneOverflow → {bytes : List ℕ} {it : Command} {status other : ℕ} {line said : List ℕ} (p : Refuses bytes it status line) (q : Refuses bytes it other said) (x y : HasDesign bytes) → designed p ≡ Some x → designed q ≡ Some y
+both_designed : OneOverflow → {bytes : List ℕ} {it : Command} {status other : ℕ} {line said : List ℕ} → has_one_output it ≡ true → (p : Refuses bytes it status line) (q : Refuses bytes it other said) (x y : HasDesign bytes) → designed p ≡ Some x → designed q ≡ Some y
     → Agree bytes status other line said
-both_designed one {bytes = bytes} (of_tape doc design tape read made failed) (of_tape doc' design' tape' read' made' failed') x y e f =
+both_designed one {bytes = bytes} determined (of_tape doc design tape read made failed) (of_tape doc' design' tape' read' made' failed') x y e f =
     let again = subst (λ (x : Doc). tape_in x.net x.tape ≡ Err tape') (one_document bytes doc' doc read' read) failed' in
     let same : tape ≡ tape' = cc in
     (refl, inl (ap tape_line same))
-both_designed one (of_tape doc design tape read made failed) (of_width doc' design' read' made' asks wide) x y e f = absurd asks
-both_designed one (of_width doc design read made asks wide) (of_tape doc' design' tape read' made' failed) x y e f = absurd asks
-both_designed one {bytes = bytes} (of_form doc a path read made failed) (of_form doc' b path' read' made' failed') x y e f =
+both_designed one determined (of_tape doc design tape read made failed) (of_width doc' design' read' made' asks wide) x y e f = absurd asks
+both_designed one determined (of_width doc design read made asks wide) (of_tape doc' design' tape read' made' failed) x y e f = absurd asks
+both_designed one {bytes = bytes} determined (of_form doc a path read made failed) (of_form doc' b path' read' made' failed') x y e f =
     let proofs = both_proofs bytes doc doc' a b read read' made made' in
     let same : path ≡ path' = cc in
     (refl, inl (ap form_line same))
-both_designed one {bytes = bytes} (of_form doc a path read made failed) (of_persistency doc' b c read' made' has first) x y e f =
+both_designed one {bytes = bytes} determined (of_form doc a path read made failed) (of_persistency doc' b c read' made' has first) x y e f =
     let proofs = both_proofs bytes doc doc' a b read read' made made' in
     let found = has.proof in
     absurd cc
-both_designed one {bytes = bytes} (of_form doc a path read made failed) (of_width doc' b read' made' asks wide) x y e f =
+both_designed one determined (of_form doc a path read made failed) (of_overflow doc' b flow r s column read' made' asks rows meets) x y e f = absurd asks
+both_designed one determined (of_overflow doc a flow r s column read made asks rows meets) (of_form doc' b path read' made' failed) x y e f = absurd asks
+both_designed one determined (of_tape doc a tape read made failed) (of_overflow doc' b flow r s column read' made' asks rows meets) x y e f = absurd asks
+both_designed one determined (of_overflow doc a flow r s column read made asks rows meets) (of_tape doc' b tape read' made' failed) x y e f = absurd asks
+both_designed one determined (of_tape doc a tape read made failed) (of_persistency doc' b c read' made' asks first) x y e f = absurd asks
+both_designed one determined (of_persistency doc a c read made asks first) (of_tape doc' b tape read' made' failed) x y e f = absurd asks
+both_designed one {it = it} determined (of_persistency doc a c read made rights first) (of_overflow doc' b flow r s column read' made' asks rows meets) x y e f =
+    absurd (not_both_asked it doc a b determined rights asks)
+both_designed one {it = it} determined (of_overflow doc a flow r s column read made asks rows meets) (of_persistency doc' b c read' made' rights first) x y e f =
+    absurd (not_both_asked it doc' b a determined rights asks)
+both_designed one {bytes = bytes} determined (of_form doc a path read made failed) (of_width doc' b read' made' asks wide) x y e f =
     let proofs = both_proofs bytes doc doc' a b read read' made made' in
     let found = asks.0.proof in
     absurd cc
-both_designed one {bytes = bytes} (of_persistency doc a c read made has first) (of_form doc' b path read' made' failed) x y e f =
+both_designed one {bytes = bytes} determined (of_persistency doc a c read made has first) (of_form doc' b path read' made' failed) x y e f =
     let proofs = both_proofs bytes doc doc' a b read read' made made' in
     let found = has.proof in
     absurd cc
-both_designed one {bytes = bytes} (of_persistency doc a c read made has first) (of_persistency doc' b c' read' made' has' first') x y e f =
+both_designed one {bytes = bytes} determined (of_persistency doc a c read made has first) (of_persistency doc' b c' read' made' has' first') x y e f =
     (refl, inl (same_ungranted bytes doc doc' a b read read' made made' c c' first first'))
-both_designed one {bytes = bytes} (of_persistency doc a c read made has first) (of_width doc' b read' made' asks wide) x y e f =
-    absurd (granted_both bytes doc' doc b a read' read made' made asks.1 c first)
-both_designed one {bytes = bytes} (of_width doc a read made asks wide) (of_form doc' b path read' made' failed) x y e f =
+both_designed one {bytes = bytes} {it = it} determined (of_persistency doc a c read made has first) (of_width doc' b read' made' asks wide) x y e f =
+    absurd (granted_both bytes doc' doc b a read' read made' made (rights_granted it doc doc' a b has asks) c first)
+both_designed one {bytes = bytes} determined (of_width doc a read made asks wide) (of_form doc' b path read' made' failed) x y e f =
     let proofs = both_proofs bytes doc doc' a b read read' made made' in
     let found = asks.0.proof in
     absurd cc
-both_designed one {bytes = bytes} (of_width doc a read made asks wide) (of_persistency doc' b c read' made' has first) x y e f =
-    absurd (granted_both bytes doc doc' a b read read' made made' asks.1 c first)
-both_designed one {bytes = bytes} (of_width doc a read made asks wide) (of_width doc' b read' made' asks' wide') x y e f =
+both_designed one {bytes = bytes} {it = it} determined (of_width doc a read made asks wide) (of_persistency doc' b c read' made' has first) x y e f =
+    absurd (granted_both bytes doc doc' a b read read' made made' (rights_granted it doc' doc b a has asks) c first)
+both_designed one {bytes = bytes} determined (of_width doc a read made asks wide) (of_width doc' b read' made' asks' wide') x y e f =
     (refl, inl (ap width_line (both_pairs bytes doc doc' a b read read' made made')))
-both_designed one {bytes = bytes} (of_width doc a read made asks wide) (of_overflow doc' b flow r s column read' made' rows meets) x y e f =
+both_designed one {bytes = bytes} determined (of_width doc a read made asks wide) (of_overflow doc' b flow r s column read' made' _ rows meets) x y e f =
     let pairs = both_pairs bytes doc doc' a b read read' made made' in
     absurd (omega (arith, pairs, wide, rows.narrow))
-both_designed one {bytes = bytes} (of_overflow doc a flow r s column read made rows meets) (of_width doc' b read' made' asks wide) x y e f =
+both_designed one {bytes = bytes} determined (of_overflow doc a flow r s column read made _ rows meets) (of_width doc' b read' made' asks wide) x y e f =
     let pairs = both_pairs bytes doc doc' a b read read' made made' in
     absurd (omega (arith, pairs, wide, rows.narrow))
-both_designed one {bytes = bytes} (of_overflow doc a flow r s column read made rows meets) (of_overflow doc' b flow' t u other read' made' rows' meets') x y e f =
+both_designed one {bytes = bytes} determined (of_overflow doc a flow r s column read made _ rows meets) (of_overflow doc' b flow' t u other read' made' _ rows' meets') x y e f =
     (refl, inl (ap overflow_line (same_overflow doc a b made (design_of bytes doc' doc b read' read made') one flow flow' r s t u column other rows rows' meets meets')))
-both_designed one _ _ x y e f = absurd cc
+both_designed one determined _ _ x y e f = absurd cc
 
-pub refusals : NoLoop → OneOverflow → {bytes : List ℕ} {it : Command} {status other : ℕ} {line said : List ℕ} → Refuses bytes it status line → Refuses bytes it other said → Agree bytes status other line said
-refusals none one {bytes = bytes} {it = it} {status = status} {other = other} {line = line} {said = said} p q = by_design (designed p) refl (designed q) refl
+pub refusals : NoLoop → OneOverflow → {bytes : List ℕ} {it : Command} {status other : ℕ} {line said : List ℕ} → has_one_output it ≡ true → Refuses bytes it status line → Refuses bytes it other said → Agree bytes status other line said
+refusals none one {bytes = bytes} {it = it} {status = status} {other = other} {line = line} {said = said} determined p q = by_design (designed p) refl (designed q) refl
   where
     by_design : (x : Option (HasDesign bytes)) → designed p ≡ x → (y : Option (HasDesign bytes)) → designed q ≡ y → Agree bytes status other line said
     by_design None e None f = both_undesigned p q e f
     by_design None e (Some has) f = absurd (undesigned none p e has)
     by_design (Some has) e None f = absurd (undesigned none q f has)
-    by_design (Some has) e (Some has') f = both_designed one p q has has' e f
+    by_design (Some has) e (Some has') f = both_designed one determined p q has has' e f
 
 -- ---- the laws
 
 pub one_output : OneRun → OneEnd → OneVerdict → OneOutput
-one_output one_run one_end one_verdict = λ bytes it turned other_turned text other p q. outputs one_run one_end one_verdict p q
+one_output one_run one_end one_verdict = λ bytes it turned other_turned text other determined p q. outputs one_run one_end one_verdict determined p q
 
 pub no_output : NoLoop → ExclusiveEnds → NoOutputOfRefused
-no_output none exclusive = λ bytes it status turned line text p q. excludes none exclusive p q
+no_output none exclusive = λ bytes it status turned line text same p q. excludes none exclusive same p q
 
 pub one_refusal : NoLoop → OneOverflow → OneRefusal
-one_refusal none one = λ bytes it status other line said p q. refusals none one p q
+one_refusal none one = λ bytes it status other line said determined p q. refusals none one determined p q

@@ -2,15 +2,17 @@
 use Rattle.std.proofs.Common.{◌≡◌, ◌≢◌, ◌≤◌, ℕ, true, false, List, ◌++◌, length, Option, Some, None, Result, Ok, Err, refl, sym, ap, ◌∙◌, subst, arith}
 use Rattle.std.proofs.lemmas.List.{append-nil, length-append}
 use Rattle.std.proofs.Common.{◌⊎◌, inl, inr}
-use Rattle.std.specs.Prelude.{IsSomeAnd}
+use Rattle.std.specs.Prelude.{IsSomeAnd, ◌==◌}
+use Rattle.std.proofs.lemmas.Bool.{cases_Bool}
 use Rattle.xm_commands.proofs.OneAnswer.{excludes}
 use Rattle.xm_commands.specs.Output.{IsOutput}
-use Rattle.xm_commands.specs.Status.{Gave, IsRefused, IsTold, Prints, PrintsFront, Tells, is_done, is_of_input, is_status, line_of, most_bytes}
+use Rattle.xm_commands.specs.Status.{Gave, IsExpected, IsRefused, IsTold, Prints, PrintsFront, Tells, is_done, is_of_input, is_status, line_of, most_bytes}
 use Rattle.xm_commands.specs.Status.{outcome_status, status_of}
 use Rattle.xm_commands.specs.Status as plain
-use Rattle.xm_commands.specs.Inner.WhyEnded.{Change, HasAnswered, HasEnded, IsUnharmed, IsUntouched, IsWhy, IsWhyCalled}
-use Rattle.xm_commands.specs.OneAnswer.{OneOutput}
+use Rattle.xm_commands.specs.Inner.WhyEnded.{Change, HasAnswered, HasEnded, IsInputRefused, IsUnharmed, IsUntouched, IsWhy, IsWhyCalled}
+use Rattle.xm_commands.specs.OneAnswer.{OneOutput, has_one_output, may_differ}
 use Rattle.xm_commands.specs.declared.command.Command.{Command}
+use Rattle.xm_commands.specs.declared.command.Command.TheVariants as command
 use Rattle.xm_commands.specs.declared.command.Outcome.{Outcome}
 use Rattle.xm_commands.specs.declared.command.Outcome.TheVariants as outcome
 use Rattle.xm_commands.specs.declared.refusal.Refusal.{Refusal}
@@ -194,19 +196,49 @@ not_longer limit (Some xs) (Some ys) bytes is within more =
     let same : xs ≡ bytes = cc in
     omega (arith, within, more.1, ap length same, ap length more.2, length-append more.0 ys)
 
-module _ {S K : Type 0} (it : Command) (source : Change S) (sink : Change K) where
-  pub why_complete : NoLoop → ExclusiveEnds → (bytes text : List ℕ) (turned : Outcome) → source.bytes_before ≡ Some bytes → length bytes ≤ most_bytes → IsOutput bytes it turned text → (Rose source.faults_before source.faults_after → ⊥)
-      → (Rose sink.faults_before sink.faults_after → ⊥) → (r : Refusal) → IsWhy it source sink r → status_of r ≡ 9
-  why_complete none exclusive bytes text turned is within output no_read no_write refusal.Words why = absurd why
-  why_complete none exclusive bytes text turned is within output no_read no_write (refusal.Document line) why = absurd (excludes none exclusive why.refused (subst (λ (x : List ℕ). IsOutput x it turned text) (sym (same_bytes source.bytes_before source.bytes_after bytes why.bytes is why.gave.whole)) output))
-  why_complete none exclusive bytes text turned is within output no_read no_write (refusal.Net line) why = absurd (excludes none exclusive why.refused (subst (λ (x : List ℕ). IsOutput x it turned text) (sym (same_bytes source.bytes_before source.bytes_after bytes why.bytes is why.gave.whole)) output))
-  why_complete none exclusive bytes text turned is within output no_read no_write (refusal.Tape line) why = absurd (excludes none exclusive why.refused (subst (λ (x : List ℕ). IsOutput x it turned text) (sym (same_bytes source.bytes_before source.bytes_after bytes why.bytes is why.gave.whole)) output))
-  why_complete none exclusive bytes text turned is within output no_read no_write (refusal.Proof line) why = absurd (excludes none exclusive why.refused (subst (λ (x : List ℕ). IsOutput x it turned text) (sym (same_bytes source.bytes_before source.bytes_after bytes why.bytes is why.gave.whole)) output))
-  why_complete none exclusive bytes text turned is within output no_read no_write (refusal.Overflow line) why = absurd (excludes none exclusive why.refused (subst (λ (x : List ℕ). IsOutput x it turned text) (sym (same_bytes source.bytes_before source.bytes_after bytes why.bytes is why.gave.whole)) output))
-  why_complete none exclusive bytes text turned is within output no_read no_write refusal.Read why = absurd (no_read why.0)
-  why_complete none exclusive bytes text turned is within output no_read no_write refusal.Write why = absurd (no_write why.0)
-  why_complete none exclusive bytes text turned is within output no_read no_write refusal.Memory why = refl
-  why_complete none exclusive bytes text turned is within output no_read no_write refusal.TooLong why = absurd (not_longer most_bytes source.bytes_before source.bytes_after bytes is within why.0)
+-- only a search may differ, and only where it leaves 128 bits
+differs_not : (it : Command) (status : ℕ) → (status == 8) ≡ false → may_differ it status ≡ false
+differs_not command.Check status other = refl
+differs_not command.Run status other = refl
+differs_not command.Inv status other = refl
+differs_not command.Verify status other = refl
+differs_not (command.Prove budget) status other = other
+
+-- want of memory, or a search that leaves 128 bits
+abbrev pub EndsOtherwise : Command → ℕ → Type 0
+EndsOtherwise it status = (status ≡ 9) ⊎ ((may_differ it 8 ≡ true) × (status ≡ 8))
+
+pub expected_otherwise : (it : Command) (turned : Outcome) (status : ℕ) → EndsOtherwise it status → IsExpected it turned status
+expected_otherwise (command.Prove budget) turned status (inl want) = inr (inr want)
+expected_otherwise (command.Prove budget) turned status (inr leaves) = inr (inl leaves.1)
+expected_otherwise command.Check turned status (inl want) = inr want
+expected_otherwise command.Check turned status (inr leaves) = absurd (let no = leaves.0 in cc)
+expected_otherwise command.Run turned status (inl want) = inr want
+expected_otherwise command.Run turned status (inr leaves) = absurd (let no = leaves.0 in cc)
+expected_otherwise command.Inv turned status (inl want) = inr want
+expected_otherwise command.Inv turned status (inr leaves) = absurd (let no = leaves.0 in cc)
+expected_otherwise command.Verify turned status (inl want) = inr want
+expected_otherwise command.Verify turned status (inr leaves) = absurd (let no = leaves.0 in cc)
+
+module _ {S K : Type 0} (it : Command) (source : Change S) (sink : Change K) (none : NoLoop) (exclusive : ExclusiveEnds) (bytes text : List ℕ) (turned : Outcome)
+    (is : source.bytes_before ≡ Some bytes) (output : IsOutput bytes it turned text) where
+  not_refused : (status : ℕ) (line : List ℕ) → may_differ it status ≡ false → IsInputRefused it source sink status line → ⊥
+  not_refused status line same why =
+      excludes none exclusive same why.refused (subst (λ (x : List ℕ). IsOutput x it turned text) (sym (same_bytes source.bytes_before source.bytes_after bytes why.bytes is why.gave.whole)) output)
+
+  pub why_complete : length bytes ≤ most_bytes → (Rose source.faults_before source.faults_after → ⊥) → (Rose sink.faults_before sink.faults_after → ⊥) → (r : Refusal) → IsWhy it source sink r
+      → EndsOtherwise it (status_of r)
+  why_complete within no_read no_write refusal.Words why = absurd why
+  why_complete within no_read no_write (refusal.Document line) why = absurd (not_refused 3 line.items (differs_not it 3 refl) why)
+  why_complete within no_read no_write (refusal.Net line) why = absurd (not_refused 4 line.items (differs_not it 4 refl) why)
+  why_complete within no_read no_write (refusal.Tape line) why = absurd (not_refused 5 line.items (differs_not it 5 refl) why)
+  why_complete within no_read no_write (refusal.Proof line) why = absurd (not_refused 5 line.items (differs_not it 5 refl) why)
+  why_complete within no_read no_write (refusal.Overflow line) why =
+      elim (cases_Bool (may_differ it 8)) [ inl may ↦ inr (may, refl) | inr same ↦ absurd (not_refused 8 line.items same why) ]
+  why_complete within no_read no_write refusal.Read why = absurd (no_read why.0)
+  why_complete within no_read no_write refusal.Write why = absurd (no_write why.0)
+  why_complete within no_read no_write refusal.Memory why = inl refl
+  why_complete within no_read no_write refusal.TooLong why = absurd (not_longer most_bytes source.bytes_before source.bytes_after bytes is within why.0)
 
 -- ---- what an output says of each clause
 
@@ -222,12 +254,12 @@ module _ {S K : Type 0} (source : Change S) (sink : Change K) (called : Option C
       subst (λ (o : Outcome). Prints it o source.bytes_before source.bytes_after sink.bytes_before sink.bytes_after) (same_outcome said turned status)
       (called_is (λ (it : Command). Prints it said source.bytes_before source.bytes_after sink.bytes_before sink.bytes_after) called it is same)
 
-  pub done_complete : OneOutput → (bytes text : List ℕ) → IsSomeAnd called (λ (it : Command). Prints it said source.bytes_before source.bytes_after sink.bytes_before sink.bytes_after) → called ≡ Some it
+  pub done_complete : OneOutput → (bytes text : List ℕ) → has_one_output it ≡ true → IsSomeAnd called (λ (it : Command). Prints it said source.bytes_before source.bytes_after sink.bytes_before sink.bytes_after) → called ≡ Some it
       → source.bytes_before ≡ Some bytes → IsOutput bytes it turned text → outcome_status said ≡ outcome_status turned
-  done_complete one bytes text is same read output =
+  done_complete one bytes text determined is same read output =
       let prints = called_is (λ (it : Command). Prints it said source.bytes_before source.bytes_after sink.bytes_before sink.bytes_after) called it is same in
       let bytes_same = same_bytes source.bytes_before source.bytes_after bytes prints.bytes read prints.gave.whole in
-      ap outcome_status (one bytes it said turned prints.printed.0 text (subst (λ (x : List ℕ). IsOutput x it said prints.printed.0) bytes_same prints.printed.1) output).0
+      ap outcome_status (one bytes it said turned prints.printed.0 text determined (subst (λ (x : List ℕ). IsOutput x it said prints.printed.0) bytes_same prints.printed.1) output).0
 
 -- no refusal has the status of an output
 pub refused_not_done : (r : Refusal) → is_done (status_of r) ≡ false
@@ -237,6 +269,14 @@ refused_not_done _ = refl
 done_outcome : (o : Outcome) → is_done (outcome_status o) ≡ true
 done_outcome outcome.Yes = refl
 done_outcome outcome.No = refl
+
+-- the output of a command that has one is as expected, and so is any of a search
+pub expected_done : (it : Command) (turned said : Outcome) → (has_one_output it ≡ true → outcome_status said ≡ outcome_status turned) → IsExpected it turned (outcome_status said)
+expected_done (command.Prove budget) turned said same = inl (done_outcome said)
+expected_done command.Check turned said same = inl (same refl)
+expected_done command.Run turned said same = inl (same refl)
+expected_done command.Inv turned said same = inl (same refl)
+expected_done command.Verify turned said same = inl (same refl)
 
 pub why_not_done : (r : Refusal) (o : Outcome) → status_of r ≡ outcome_status o → ⊥
 why_not_done r o same = let no = refused_not_done r in let yes = ap is_done same ∙ done_outcome o in cc

@@ -1,5 +1,7 @@
 -- What a command prints for the bytes of a document.
-use Rattle.std.specs.Prelude.{◌≡◌, ◌≤◌, ℕ, List, Result, Ok}
+use Rattle.serde_json.specs.Data.{Data}
+use Rattle.serde_json.specs.Written.{compact_text}
+use Rattle.std.specs.Prelude.{◌≡◌, ◌≤◌, ◌++◌, ◌∷◌, [], ℕ, List, Result, Ok, Some, ℤ}
 use Rattle.xm_check.specs.Break.{IsVerdict}
 use Rattle.xm_colours.specs.Allowing.{AllowsAll}
 use Rattle.xm_colours.specs.Family.{colours_at}
@@ -17,17 +19,23 @@ use Rattle.xm_netlist.specs.Doc.{Doc}
 use Rattle.xm_json.specs.Path.{Path}
 use Rattle.xm_netlist.specs.Reading.{document_in}
 use Rattle.xm_persist.specs.Rights.{AllGranted}
-use Rattle.xm_proof.specs.Argument.{Argument}
+use Rattle.xm_lits.specs.declared.literal.Lit.{Lit}
+use Rattle.xm_proof.specs.Argument.{Argument, Refutation}
+use Rattle.xm_proof.specs.Valid.{IsProof}
 use Rattle.xm_proof.specs.declared.verdict.Verdict.{Verdict}
 use Rattle.xm_proof.specs.declared.verdict.Verdict.TheVariants as verdict
 use Rattle.xm_proof_reader.specs.Known.{known_by}
 use Rattle.xm_proof_reader.specs.Reading.{proof_in}
 use Rattle.xm_report.specs.Check.{check_text}
 use Rattle.xm_report.specs.Invariants.{invariant_text}
+use Rattle.xm_proof_writer.specs.Writing.{proof_data}
+use Rattle.xm_report.specs.Search.{open_text, spent_text}
 use Rattle.xm_report.specs.Verdict.{verdict_text}
+use Rattle.xm_search.specs.Searched.{IsOpen, IsSpent}
 use Rattle.xm_tape.specs.Reading.{tape_in}
 use Rattle.xm_tape.specs.Taped.{Taped}
 use Rattle.xm_trace.specs.Text.{IsTextOfRun}
+use Rattle.xm_writer.specs.Writing.{text_of}
 
 -- a design of the document's net, whose list of allowed colours refuses nothing
 pub record IsDesignOf (doc : Doc) (design : Designed) : Type 0 where
@@ -66,9 +74,47 @@ abbrev pub outcome_of : Verdict → Outcome
 outcome_of verdict.Yes = outcome.Yes
 outcome_of (verdict.No at why) = outcome.No
 
+-- the value of a proof, with the names of a design
+abbrev pub data_of_proof : Doc → Designed → Argument → Data
+data_of_proof doc design p = proof_data (known_by design doc.names) p
+
+-- the document, with this proof in the place of its own
+abbrev pub with_proof : Doc → Data → Doc
+with_proof doc proof = record doc { proof = Some proof }
+
+-- the text of the document with a proof, from which document and proof are read again
+pub record HasProofText (doc : Doc) (design : Designed) (p : Argument) (text : List ℕ) : Type 0 where
+  pub written : text ≡ text_of (with_proof doc (data_of_proof doc design p))
+  pub read : document_in text ≡ Ok (with_proof doc (data_of_proof doc design p))
+  pub proof : proof_of (with_proof doc (data_of_proof doc design p)) design ≡ Ok p
+
+-- a design each of whose channels is granted a persistent initiator, and the lemmas that a search may cite
+pub record IsSearched (design : Designed) (lemmas : List Lemma) : Type 0 where
+  pub granted : AllGranted design.net
+  pub invariants : AreInvariants design lemmas
+
+-- a proof that no channel of the design jams
+pub record IsProved (design : Designed) (p : Argument) : Type 0 where
+  pub rows : Flow
+  pub has_flow : HasFlow design rows
+  pub is_proof : IsProof design rows.rows p
+
+-- What a search in so many nodes and pivots finds, and its text: the document with a proof, a candidate of a deadlock
+-- for the first goal that is not refuted, or that the budget is spent.
+pub data Finds (budget : ℕ) (doc : Doc) (design : Designed) (lemmas : List Lemma) : Outcome → List ℕ → Type 0 where
+  a_proof : (p : Argument) (text : List ℕ) → IsProved design p → HasProofText doc design p text
+      → Finds budget doc design lemmas outcome.Yes text
+  a_candidate : (goal : Lit) (lits : List Lit) (denominator : ℤ) (counts : List ℤ)
+      → IsOpen design lemmas goal lits denominator counts
+      → Finds budget doc design lemmas outcome.No (open_text doc.names design goal lits counts denominator)
+  no_end : (p : Argument) (before : List Refutation) (last : Refutation) (nodes pivots : ℕ)
+      → IsSpent design lemmas budget p nodes pivots → p.goals ≡ before ++ last ∷ []
+      → Finds budget doc design lemmas outcome.No
+      (spent_text doc.names nodes pivots last.lit (compact_text (data_of_proof doc design p)))
+
 -- The output of a command for the bytes of a document, and how it turned out: of `check` the sizes and colours of its
--- design, of `run` the text of the run of its tape, of `inv` that of its invariants, and of `verify` the verdict on its
--- proof, which may be no.
+-- design, of `run` the text of the run of its tape, of `inv` that of its invariants, of `verify` the verdict on its
+-- proof, which may be no, and of `prove` what a search finds, which may be no proof.
 pub data IsOutput (bytes : List ℕ) : Command → Outcome → List ℕ → Type 0 where
   of_check : (doc : Doc) (design : Designed) → document_in bytes ≡ Ok doc → IsDesignOf doc design
       → IsOutput bytes command.Check outcome.Yes (check_text doc.names design)
@@ -80,3 +126,6 @@ pub data IsOutput (bytes : List ℕ) : Command → Outcome → List ℕ → Type
       → IsOutput bytes command.Inv outcome.Yes (invariant_text doc.names design lemmas)
   of_verify : (doc : Doc) (design : Designed) (said : Verdict) → document_in bytes ≡ Ok doc → IsDesignOf doc design
       → IsVerdictOf doc design said → IsOutput bytes command.Verify (outcome_of said) (verdict_text said)
+  of_prove : (doc : Doc) (design : Designed) (budget : ℕ) (lemmas : List Lemma) (turned : Outcome) (text : List ℕ)
+      → document_in bytes ≡ Ok doc → IsDesignOf doc design → IsSearched design lemmas
+      → Finds budget doc design lemmas turned text → IsOutput bytes (command.Prove budget) turned text

@@ -1,10 +1,11 @@
 -- The statuses and lines of error, and what was read and written with each.
-use Rattle.std.specs.Prelude.{ℕ, ◌≤◌, List, ◌||◌, ◌==◌, Bool, codes, length}
+use Rattle.std.specs.Prelude.{◌≡◌, ◌⊎◌, ℕ, true, ◌≤◌, List, ◌||◌, ◌==◌, Bool, codes, length}
 use Rattle.std.specs.declared.option.Option.{Option}
 use Rattle.std.specs.Io.KnownBytes.{Appends}
 use Rattle.xm_commands.specs.Output.{IsOutput}
 use Rattle.xm_commands.specs.Refusal.{Refuses}
 use Rattle.xm_commands.specs.declared.command.Command.{Command}
+use Rattle.xm_commands.specs.declared.command.Command.TheVariants as command
 use Rattle.xm_commands.specs.declared.command.Outcome.{Outcome}
 use Rattle.xm_commands.specs.declared.command.Outcome.TheVariants as outcome
 use Rattle.xm_commands.specs.declared.refusal.Refusal.{Refusal}
@@ -52,6 +53,12 @@ is_status n =
 -- the statuses of an output that was written whole
 abbrev pub is_done : ℕ → Bool
 is_done n = (n == 0) || (n == 1)
+
+-- the status for bytes that have this output, where no call fails: that of the output; of a search any that ends it, or
+-- that it leaves 128 bits; or else want of memory
+abbrev pub IsExpected : Command → Outcome → ℕ → Type 0
+IsExpected (command.Prove budget) turned status = (is_done status ≡ true) ⊎ ((status ≡ 8) ⊎ (status ≡ 9))
+IsExpected _ turned status = (status ≡ outcome_status turned) ⊎ (status ≡ 9)
 
 -- the statuses of a document, its net, its tape, its proof and its invariants
 abbrev pub is_of_input : ℕ → Bool

@@ -1,11 +1,13 @@
 -- The words that the program knows.
-use Rattle.std.specs.Prelude.{ℕ, List, [], ◌∷◌, if◌then◌else◌, Option, Some, None, codes, option_and_then}
+use Rattle.std.specs.Prelude.{ℕ, List, [], ◌∷◌, if◌then◌else◌, Option, Some, None, false, codes, option_and_then, option_map}
 use Rattle.std.specs.Str.{bytes_eq}
 use Rattle.xm_commands.specs.declared.command.Command.{Command}
 use Rattle.xm_commands.specs.declared.command.Command.TheVariants as command
 use Rattle.xm_io.specs.declared.words.Words.{Words}
 use Rattle.xm_model.specs.Naming.{texts_of}
 use Rattle.xm_options.specs.Grammar.{options_in}
+use Rattle.xm_options.specs.declared.option.LongOption.{LongOption}
+use Rattle.xm_options.specs.declared.option.OptionName.TheVariants.{Budget}
 
 abbrev pub command_named : List ℕ → Option Command
 command_named word =
@@ -14,10 +16,25 @@ command_named word =
     else (if bytes_eq word (codes "inv") then Some command.Inv
     else (if bytes_eq word (codes "verify") then Some command.Verify else None)))
 
--- the first word is a command, and those behind it are its options, of which these commands have none
+-- the option of `prove`: the most nodes and pivots of a search, from 1 to 10,000,000
+abbrev pub budget_option : LongOption
+budget_option = record { name = Budget; low = 1; high = 10000000; wanted = false }
+
+-- the budget by the value of that option; 200,000 where it is not given
+abbrev pub budget_of : List (Option ℕ) → ℕ
+budget_of (Some budget ∷ rest) = budget
+budget_of _ = 200000
+
+-- the search that the words behind `prove` call
+abbrev pub prove_in : List (List ℕ) → Option Command
+prove_in rest = option_map (λ values. command.Prove (budget_of values)) (options_in (budget_option ∷ []) rest)
+
+-- the first word is a command, and those behind it are its options, of which no command but `prove` has any
 abbrev pub command_in : List (List ℕ) → Option Command
 command_in [] = None
-command_in (word ∷ rest) = option_and_then (λ values. command_named word) (options_in [] rest)
+command_in (word ∷ rest) =
+    if bytes_eq word (codes "prove") then prove_in rest
+    else option_and_then (λ values. command_named word) (options_in [] rest)
 
 -- the command that the program's words call
 abbrev pub command_of : Words → Option Command

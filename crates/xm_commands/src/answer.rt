@@ -8,6 +8,7 @@ ghost use Rattle.xm_netlist.specs.Reading.{document_in};
 ghost use Rattle.xm_tape.specs.Gives as tape;
 ghost use Rattle.xm_tape.specs.Reading.{tape_in};
 ghost use Rattle.xm_commands.specs.Output.{IsDesignOf};
+ghost use Rattle.xm_commands.specs.Inner.Budget.{HasBudget};
 ghost use Rattle.xm_commands.specs.Inner.Prepared.{IsPrepared, IsRefusedAs, is_want_of_tape};
 ghost use Rattle.xm_commands.specs.Inner.WhyEnded.{HasAnswered, change};
 ghost use Rattle.xm_commands.specs.declared.command.Command.TheVariants as command;
@@ -15,6 +16,7 @@ ghost use Rattle.xm_commands.specs.declared.command.Command.TheVariants as comma
 use crate::command::{Command, Outcome};
 use crate::invariants::write_invariants;
 use crate::prepared::{Prepared, prepare};
+use crate::prove::write_search;
 use crate::refusal::{Ended, Refusal};
 use crate::running::write_run;
 use crate::verifying::write_verdict;
@@ -64,28 +66,32 @@ fn answer_run<K: Sink>(alloc: Global, prepared: &Prepared, out: &mut K) -> Ended
 fn answer_prepared<K: Sink>(
     alloc: Global,
     command: Command,
+    bytes: &[u8],
     prepared: &Prepared,
     out: &mut K,
 ) -> Ended
-    requires { IsNamed prepared.now.design.net (naming_of prepared.now.names) }
-    ensures { (bytes : Items ℕ) → IsPrepared bytes prepared.now
-        → HasAnswered bytes command (change K.held K.faults out.old out.new) result }
+    requires prepared { IsPrepared bytes.now prepared.now }
+    requires named { IsNamed prepared.now.design.net (naming_of prepared.now.names) }
+    requires budget { HasBudget command }
+    ensures { HasAnswered bytes.now command (change K.held K.faults out.old out.new) result }
 {
     match command {
         Command::Check => write_check(alloc, prepared, out),
         Command::Run => answer_run(alloc, prepared, out),
         Command::Inv => write_invariants(alloc, prepared, out),
         Command::Verify => write_verdict(alloc, prepared, out),
+        Command::Prove(budget) => write_search(alloc, bytes, prepared, budget, out),
     }
 }
 
 /// Writes the command's output for the bytes. A refusal for the document, its net, its tape, its proof or its
 /// invariants leaves `out`.
 pub fn answer<K: Sink>(alloc: Global, command: Command, bytes: &[u8], out: &mut K) -> Ended
+    requires { HasBudget command }
     ensures { HasAnswered bytes.now command (change K.held K.faults out.old out.new) result }
 {
     match prepare(alloc, bytes) {
-        Ok(prepared) => answer_prepared(alloc, command, &prepared, out),
+        Ok(prepared) => answer_prepared(alloc, command, bytes, &prepared, out),
         Err(refusal) => Err(refusal),
     }
 }

@@ -5,7 +5,7 @@ ghost use Rattle.xm_commands.specs.Inner.Invariants.{IsFlowFault, IsOverflow};
 ghost use Rattle.xm_commands.specs.Inner.Prepared.{IsPrepared, IsRefusedAs};
 ghost use Rattle.xm_commands.specs.Inner.WhyEnded.{HasAnswered, change};
 ghost use Rattle.xm_commands.specs.Output.{AreInvariants, HasFlow, IsDesignOf};
-ghost use Rattle.xm_commands.specs.Refusal.{AsksForFlow};
+ghost use Rattle.xm_commands.specs.Refusal.{AsksForFlow, AsksForInvariants};
 ghost use Rattle.xm_commands.specs.declared.command.Command.TheVariants as command;
 ghost use Rattle.xm_design.specs.Designed.{Designed};
 ghost use Rattle.xm_flow.specs.FlowRows.{Flow};
@@ -40,10 +40,10 @@ pub fn flow_refusal(alloc: Global, fault: FlowFault) -> Refusal
 }
 
 /// The refusal of an elimination without an end.
-fn elimination_refusal(alloc: Global, fault: &ElimFault) -> Refusal
-    ensures { (bytes : Items ℕ) (doc : Doc) (design : Designed) (rows : Flow) → document_in bytes ≡ Ok doc
-        → IsDesignOf doc design → HasFlow design rows → IsOverflow design rows fault.now
-        → IsRefusedAs bytes command.Inv result }
+pub fn elimination_refusal(alloc: Global, fault: &ElimFault) -> Refusal
+    ensures { (bytes : Items ℕ) (it : Command) (doc : Doc) (design : Designed) (rows : Flow)
+        → document_in bytes ≡ Ok doc → IsDesignOf doc design → AsksForInvariants it design → HasFlow design rows
+        → IsOverflow design rows fault.now → IsRefusedAs bytes it result }
 {
     match fault {
         ElimFault::Overflow { column, .. } => match overflow_line(alloc, *column) {

@@ -2,6 +2,7 @@
 
 ghost use Rattle.xm_commands.specs.OneAnswer.{NoOutputOfRefused, OneOutput, OneRefusal};
 ghost use Rattle.xm_commands.specs.PrintedInvariants.{PrintedHold};
+ghost use Rattle.xm_commands.specs.ProvedText.{ProvedVerify};
 ghost use Rattle.xm_commands.specs.VerifiedProof.{VerifiedHold};
 
 use xm_check::{one_verdict, proofs_hold};
@@ -9,7 +10,7 @@ use xm_elim::{ends_exclude, one_end, one_overflow};
 use xm_flow::lemmas_hold;
 use xm_order::{no_loop, one_run};
 
-/// A command has at most one output for given bytes, and it turns out in one way.
+/// A command but `prove` has at most one output for given bytes, and it turns out in one way.
 pub fn one_output()
     ensures { OneOutput }
 {
@@ -18,7 +19,7 @@ pub fn one_output()
     one_verdict();
 }
 
-/// Bytes that a command refuses have no output.
+/// Bytes that a command refuses have no output, but that a search may leave 128 bits or not.
 pub fn no_output_of_refused()
     ensures { NoOutputOfRefused }
 {
@@ -26,7 +27,7 @@ pub fn no_output_of_refused()
     ends_exclude();
 }
 
-/// Two refusals of the same bytes by the same command have the same status, and the same line but for which loop is
+/// Two refusals of the same bytes by the same command, but by `prove`, have the same status, and the same line but for which loop is
 /// named.
 pub fn one_refusal()
     ensures { OneRefusal }
@@ -48,3 +49,8 @@ pub fn verified_nets_hold()
 {
     proofs_hold();
 }
+
+/// Where `prove` finds a proof, `verify` says yes of the document that it prints.
+pub fn proved_texts_verify()
+    ensures { ProvedVerify }
+{}

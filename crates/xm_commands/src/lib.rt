@@ -3,12 +3,14 @@
 #![tactic(auto)]
 
 mod answer;
+mod budget;
 mod call;
 mod command;
 mod generating;
 mod invariants;
 mod laws;
 mod prepared;
+mod prove;
 mod refusal;
 mod running;
 mod top;
@@ -18,7 +20,8 @@ mod writing;
 pub use call::Call;
 pub use command::{Command, Outcome};
 pub use laws::{
-    no_output_of_refused, one_output, one_refusal, printed_invariants_hold, verified_nets_hold,
+    no_output_of_refused, one_output, one_refusal, printed_invariants_hold, proved_texts_verify,
+    verified_nets_hold,
 };
 pub use refusal::{Refusal, refuse};
 pub use top::plain;

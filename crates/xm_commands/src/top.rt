@@ -2,10 +2,11 @@
 
 ghost use Rattle.std.specs.Prelude.{◌≡◌, ◌≢◌, ◌⊎◌, ◌≤◌, ℕ, List as Items, None, Some, false, length, true};
 ghost use Rattle.xm_commands.specs.Output.{IsOutput};
-ghost use Rattle.xm_commands.specs.Status.{IsRefused, Prints, PrintsFront, Tells, is_done, is_of_input, is_status};
+ghost use Rattle.xm_commands.specs.Status.{IsExpected, IsRefused, Prints, PrintsFront, Tells, is_done, is_of_input, is_status};
 ghost use Rattle.xm_commands.specs.Status.{most_bytes, outcome_status};
 ghost use Rattle.xm_commands.specs.Calls.{call_of, reads_document};
 ghost use Rattle.xm_commands.specs.Generating.{PrintsGenerated, PrintsGeneratedFront, ends_generate};
+ghost use Rattle.xm_commands.specs.Inner.Budget.{HasBudget};
 ghost use Rattle.xm_commands.specs.Inner.CallEnded.{HasCalled, IsWithin};
 ghost use Rattle.xm_commands.specs.Inner.WhyEnded.{HasEnded, change};
 ghost use Rattle.xm_commands.specs.declared.call.Call.TheVariants as call;
@@ -29,6 +30,7 @@ const LIMIT: u32 = 16_777_216;
 
 /// Reads the source to its end and writes the command's output for its bytes.
 fn obey<S: Source, K: Sink>(alloc: Global, command: Command, source: &mut S, out: &mut K) -> Ended
+    requires { HasBudget command }
     ensures { HasEnded (Some command) (change S.left S.faults source.old source.new)
         (change K.held K.faults out.old out.new) result }
 {
@@ -69,12 +71,13 @@ fn obey_words<S: Source, K: Sink>(
     }
 }
 
-/// The call that does all that the program does. It answers the status: 0 where the output was
-/// written whole, and 1 where that output is a verdict that is no; 2 where the words make no call; 3 where the
-/// source's bytes are no document; 4 where the net is not well wired, has a colour that is not allowed, has a
-/// loop of its signals, for `verify` has a channel that is granted no persistent initiator, or for `inv` and
-/// `verify` is too wide; 5 where the tape has a fault, or the proof's form is broken; 6 where the source failed;
-/// 7 where the output failed; 8 where the elimination for `inv` leaves 128 bits; 9 for want of memory; 10 where
+/// The call that does all that the program does. It answers the status: 0 where the output was written whole, and 1
+/// where that output is a verdict that is no, or a search that found no proof; 2 where the words make no call; 3 where
+/// the source's bytes are no document; 4 where the net is not well wired, has a colour that is not allowed, has a loop
+/// of its signals, for `verify` and `prove` has a channel that is granted no persistent initiator, or for `inv`,
+/// `verify` and `prove` is too wide; 5 where the tape has a fault, or the proof's form is broken; 6 where the source
+/// failed; 7 where the output failed; 8 where the elimination for `inv` and `prove`, or the search's tableau, leaves
+/// 128 bits; 9 for want of memory; 10 where
 /// there are more than 16 MiB. Each status but 0 and 1 writes its line to `err`, whose faults change no status.
 /// The source's faults rise with status 6 alone, and the output's with 7 alone. `gen` does not read the source, and
 /// answers 0, 7 or 9.
@@ -110,7 +113,7 @@ pub fn plain<S: Source, K: Sink, E: Sink>(
     ensures complete { (command : Command) (turned : Outcome) (bytes text : Items ℕ)
         → call_of words.now ≡ Some (call.Obey command) → S.left source.old ≡ Some bytes → length bytes ≤ most_bytes
         → IsOutput bytes command turned text → ¬ (Rose (S.faults source.old) (S.faults source.new))
-        → ¬ (Rose (K.faults out.old) (K.faults out.new)) → (result ≡ outcome_status turned) ⊎ (result ≡ 9) }
+        → ¬ (Rose (K.faults out.old) (K.faults out.new)) → IsExpected command turned result }
     ensures generated { (size seed : ℕ) → call_of words.now ≡ Some (call.Generate size seed) → result ≡ 0
         → PrintsGenerated size seed (K.held out.old) (K.held out.new) }
     ensures generated_front { (size seed : ℕ) → call_of words.now ≡ Some (call.Generate size seed) → result ≡ 7

@@ -6,8 +6,9 @@ ghost use Rattle.xm_commands.specs.Inner.Prepared.{IsPrepared, IsRefusedAs};
 ghost use Rattle.xm_commands.specs.Inner.Verifying.{IsPersistFault, proof_read};
 ghost use Rattle.xm_commands.specs.Inner.WhyEnded.{HasAnswered, change};
 ghost use Rattle.xm_commands.specs.Output.{HasFlow, IsDesignOf, IsVerdictOf, outcome_of, proof_of};
-ghost use Rattle.xm_commands.specs.Refusal.{HasProof};
+ghost use Rattle.xm_commands.specs.Refusal.{AsksForRights};
 ghost use Rattle.xm_commands.specs.declared.command.Command.TheVariants as command;
+ghost use Rattle.xm_commands.specs.declared.command.Command.{Command as Called};
 ghost use Rattle.xm_design.specs.Designed.{Designed};
 ghost use Rattle.xm_model.specs.Naming.{naming_of};
 ghost use Rattle.xm_netlist.specs.Doc.{Doc};
@@ -50,10 +51,10 @@ fn form_refusal(alloc: Global, fault: &ProofFault) -> Refusal
 }
 
 /// The refusal of a net of which a channel is granted no persistent initiator.
-fn persistency_refusal(alloc: Global, names: &Names, fault: PersistFault) -> Refusal
-    ensures { (bytes : Items ℕ) (doc : Doc) (design : Designed) → document_in bytes ≡ Ok doc
-        → naming_of names.now ≡ doc.names → IsDesignOf doc design → HasProof doc design
-        → IsPersistFault design.net fault → IsRefusedAs bytes command.Verify result }
+pub fn persistency_refusal(alloc: Global, names: &Names, fault: PersistFault) -> Refusal
+    ensures { (bytes : Items ℕ) (it : Called) (doc : Doc) (design : Designed) → document_in bytes ≡ Ok doc
+        → naming_of names.now ≡ doc.names → IsDesignOf doc design → AsksForRights it doc design
+        → IsPersistFault design.net fault → IsRefusedAs bytes it result }
 {
     match fault {
         PersistFault::NotPersistent(c) => match persistency_line(alloc, names, c) {

@@ -1,6 +1,7 @@
 -- Inner: how a call ended.
 use Rattle.std.specs.Prelude.{◌≡◌, ◌≤◌, ℕ, Option, Some, None, Result, Ok, Err}
 use Rattle.xm_commands.specs.Generating.{PrintsGenerated, PrintsGeneratedFront}
+use Rattle.xm_commands.specs.Inner.Budget.{HasBudget}
 use Rattle.xm_commands.specs.Inner.WhyEnded.{Change, HasEnded, IsUnharmed, IsUntouched}
 use Rattle.xm_commands.specs.declared.call.Call.{Call}
 use Rattle.xm_commands.specs.declared.call.Call.TheVariants as call
@@ -10,9 +11,9 @@ use Rattle.xm_commands.specs.declared.refusal.Refusal.{Refusal}
 use Rattle.xm_commands.specs.declared.refusal.Refusal.TheVariants as refusal
 use Rattle.xm_io.specs.Faults.{Rose}
 
--- a line has 2 to 600 stations
+-- a search has a budget within its range, and a line has 2 to 600 stations
 abbrev pub IsWithin : Call → Type 0
-IsWithin (call.Obey command) = Unit {0}
+IsWithin (call.Obey command) = HasBudget command
 IsWithin (call.Generate size seed) = (2 ≤ size) × (size ≤ 600)
 
 -- how the document of a line was written

@@ -32,6 +32,7 @@ pub record IsPrepared (bytes : List ℕ) (it : Prepared) : Type 0 where
   pub tape : option_map view it.tape ≡ doc.tape
   pub proof : option_map view it.proof ≡ doc.proof
   pub named : IsNamed doc.net doc.names
+  pub valid : IsValid doc
 
 -- the bytes are this document, which can be written again
 pub record IsReadAs (bytes : List ℕ) (it : Document) : Type 0 where

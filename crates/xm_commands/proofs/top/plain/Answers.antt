@@ -1,13 +1,14 @@
-use Rattle.std.proofs.Common.{◌≡◌, ◌∙◌, ◌⊎◌, ℕ, Err, Ok, Some, ap, inl, inr, refl, sym, subst}
+use Rattle.std.proofs.Common.{◌≡◌, ◌∙◌, ◌⊎◌, ℕ, true, Err, Ok, Some, ap, inl, inr, refl, sym, subst}
 use Rattle.xm_commands.proofs.Calls.{call_quiet, call_read, call_read_unharmed, call_read_within, call_too_long, call_unknown, call_unread}
 use Rattle.xm_commands.proofs.Calls.{call_unwritten, call_words, call_write, call_write_unharmed, done_called, done_read_unharmed, done_unread}
 use Rattle.xm_commands.proofs.Calls.{done_write_unharmed, generated_ends, generated_front, generated_memory, made, obeyed}
-use Rattle.xm_commands.proofs.Whys.{done_complete, done_written, refused_not_done, why_complete, why_front, why_known, why_memory, why_not_done}
+use Rattle.xm_commands.proofs.Whys.{done_complete, done_written, expected_done, expected_otherwise, refused_not_done, why_complete, why_front, why_known, why_memory, why_not_done}
 use Rattle.xm_commands.proofs.Whys.{why_refused, why_told}
 use Rattle.xm_commands.specs.Calls.{call_of}
 use Rattle.xm_commands.specs.Generating.{ends_generate}
 use Rattle.xm_commands.specs.Inner.WhyEnded.{change}
-use Rattle.xm_commands.specs.Status.{IsRefused, Tells, is_done, is_of_input, is_status, outcome_status}
+use Rattle.xm_commands.specs.OneAnswer.{has_one_output}
+use Rattle.xm_commands.specs.Status.{IsExpected, IsRefused, Tells, is_done, is_of_input, is_status, outcome_status}
 use Rattle.xm_commands.specs.declared.command.Outcome.TheVariants as outcome
 use Rattle.xm_commands.proofs.top.plain.Goals as goal
 
@@ -71,7 +72,9 @@ returns-in-Err-clause-known g c = ap is_status c.refuse.ensures.status ∙ why_k
 
 pub returns-in-Err-clause-complete : goal.returns-in-Err-clause-complete
 returns-in-Err-clause-complete g c = λ it turned bytes text called is within output no_read no_write.
-    inr (c.refuse.ensures.status ∙ why_complete it (change g.S.Source.left g.S.Source.faults c.args.source.now c.obey_words.new.source) (change g.K.Sink.held g.K.Sink.faults c.args.out.now c.obey_words.new.out) c.no_loop.ensures c.ends_exclude.ensures bytes text turned is within output no_read no_write c.in-Err.refusal (obeyed (change g.S.Source.left g.S.Source.faults c.args.source.now c.obey_words.new.source) (change g.K.Sink.held g.K.Sink.faults c.args.out.now c.obey_words.new.out) (call_of c.args.words.now) it (Err c.in-Err.refusal) called c.in-Err.ensures))
+    let why = obeyed (change g.S.Source.left g.S.Source.faults c.args.source.now c.obey_words.new.source) (change g.K.Sink.held g.K.Sink.faults c.args.out.now c.obey_words.new.out) (call_of c.args.words.now) it (Err c.in-Err.refusal) called c.in-Err.ensures in
+    let ends = why_complete it (change g.S.Source.left g.S.Source.faults c.args.source.now c.obey_words.new.source) (change g.K.Sink.held g.K.Sink.faults c.args.out.now c.obey_words.new.out) c.no_loop.ensures c.ends_exclude.ensures bytes text turned is output within no_read no_write c.in-Err.refusal why in
+    subst (IsExpected it turned) (sym c.refuse.ensures.status) (expected_otherwise it turned _ ends)
 
 pub returns-in-Err-clause-generated : goal.returns-in-Err-clause-generated
 returns-in-Err-clause-generated g c = λ size seed called is. absurd (why_not_done c.in-Err.refusal outcome.Yes (sym c.refuse.ensures.status ∙ is))
@@ -105,7 +108,9 @@ returns-in-Ok-Yes-clause-written g c = λ it turned called status. done_written 
 
 pub returns-in-Ok-Yes-clause-complete : goal.returns-in-Ok-Yes-clause-complete
 returns-in-Ok-Yes-clause-complete g c = λ it turned bytes text called read within output no_read no_write.
-    inl (sym (ap outcome_status c.in-Ok-Yes.field-0-is) ∙ done_complete (change g.S.Source.left g.S.Source.faults c.args.source.now c.obey_words.new.source) (change g.K.Sink.held g.K.Sink.faults c.args.out.now c.obey_words.new.out) (Some it) it c.in-Ok-Yes.field-0 turned c.one_output.ensures bytes text (obeyed (change g.S.Source.left g.S.Source.faults c.args.source.now c.obey_words.new.source) (change g.K.Sink.held g.K.Sink.faults c.args.out.now c.obey_words.new.out) (call_of c.args.words.now) it (Ok c.in-Ok-Yes.field-0) called c.in-Ok-Yes.ensures).0 refl read output)
+    let ended = obeyed (change g.S.Source.left g.S.Source.faults c.args.source.now c.obey_words.new.source) (change g.K.Sink.held g.K.Sink.faults c.args.out.now c.obey_words.new.out) (call_of c.args.words.now) it (Ok c.in-Ok-Yes.field-0) called c.in-Ok-Yes.ensures in
+    let same = λ (determined : has_one_output it ≡ true). done_complete (change g.S.Source.left g.S.Source.faults c.args.source.now c.obey_words.new.source) (change g.K.Sink.held g.K.Sink.faults c.args.out.now c.obey_words.new.out) (Some it) it c.in-Ok-Yes.field-0 turned c.one_output.ensures bytes text determined ended.0 refl read output in
+    subst (IsExpected it turned) (ap outcome_status c.in-Ok-Yes.field-0-is) (expected_done it turned c.in-Ok-Yes.field-0 same)
 
 pub returns-in-Ok-Yes-clause-generated : goal.returns-in-Ok-Yes-clause-generated
 returns-in-Ok-Yes-clause-generated g c = λ size seed called is. (made (change g.S.Source.left g.S.Source.faults c.args.source.now c.obey_words.new.source) (change g.K.Sink.held g.K.Sink.faults c.args.out.now c.obey_words.new.out) (call_of c.args.words.now) size seed (Ok c.in-Ok-Yes.field-0) called c.in-Ok-Yes.ensures).1
@@ -130,7 +135,9 @@ returns-in-Ok-No-clause-written g c = λ it turned called status. done_written (
 
 pub returns-in-Ok-No-clause-complete : goal.returns-in-Ok-No-clause-complete
 returns-in-Ok-No-clause-complete g c = λ it turned bytes text called read within output no_read no_write.
-    inl (sym (ap outcome_status c.in-Ok-No.field-0-is) ∙ done_complete (change g.S.Source.left g.S.Source.faults c.args.source.now c.obey_words.new.source) (change g.K.Sink.held g.K.Sink.faults c.args.out.now c.obey_words.new.out) (Some it) it c.in-Ok-No.field-0 turned c.one_output.ensures bytes text (obeyed (change g.S.Source.left g.S.Source.faults c.args.source.now c.obey_words.new.source) (change g.K.Sink.held g.K.Sink.faults c.args.out.now c.obey_words.new.out) (call_of c.args.words.now) it (Ok c.in-Ok-No.field-0) called c.in-Ok-No.ensures).0 refl read output)
+    let ended = obeyed (change g.S.Source.left g.S.Source.faults c.args.source.now c.obey_words.new.source) (change g.K.Sink.held g.K.Sink.faults c.args.out.now c.obey_words.new.out) (call_of c.args.words.now) it (Ok c.in-Ok-No.field-0) called c.in-Ok-No.ensures in
+    let same = λ (determined : has_one_output it ≡ true). done_complete (change g.S.Source.left g.S.Source.faults c.args.source.now c.obey_words.new.source) (change g.K.Sink.held g.K.Sink.faults c.args.out.now c.obey_words.new.out) (Some it) it c.in-Ok-No.field-0 turned c.one_output.ensures bytes text determined ended.0 refl read output in
+    subst (IsExpected it turned) (ap outcome_status c.in-Ok-No.field-0-is) (expected_done it turned c.in-Ok-No.field-0 same)
 
 pub returns-in-Ok-No-clause-generated_status : goal.returns-in-Ok-No-clause-generated_status
 returns-in-Ok-No-clause-generated_status g c = λ size seed called. absurd (let yes = (made (change g.S.Source.left g.S.Source.faults c.args.source.now c.obey_words.new.source) (change g.K.Sink.held g.K.Sink.faults c.args.out.now c.obey_words.new.out) (call_of c.args.words.now) size seed (Ok c.in-Ok-No.field-0) called c.in-Ok-No.ensures).0 in let no = c.in-Ok-No.field-0-is in let same : outcome_status outcome.Yes ≡ outcome_status outcome.No = ap outcome_status (sym yes ∙ no) in cc)
