@@ -137,7 +137,7 @@ const TREES: [(&str, &str); 15] = [
 
 fn is_answer(answer: &Result<Proof, ProofFault>, expected: &[u8]) -> bool {
     match answer {
-        Ok(_) => expected == b"-",
+        Ok(_) => expected == b"-".as_slice(),
         Err(ProofFault::Form(path)) => path.as_bytes() == expected,
         Err(ProofFault::OutOfMemory) => false,
     }
@@ -219,7 +219,7 @@ fn has_worked(answer: &Result<Proof, ProofFault>) -> bool {
 }
 
 fn none_is_told(alloc: Global, design: &Design, names: &Names) -> bool {
-    is_answer(&read(alloc, design, names, None), b"proof")
+    is_answer(&read(alloc, design, names, None), b"proof".as_slice())
 }
 
 /// The worked proof is read, the first break of each other is told, and so is a missing proof.
