@@ -1,8 +1,8 @@
 -- The literals of a candidate are a reading that meets no clash and no sum, so that no tree refutes its goal.
-use Rattle.std.proofs.Common.{◌≡◌, ◌⊎◌, ℕ, zero, suc, ◌+◌, ◌<◌, ◌≤◌, Option, Some, None, List, [], ◌∷◌, ◌++◌, map, length}
+use Rattle.std.proofs.Common.{◌≡◌, ℕ, zero, suc, ◌+◌, ◌<◌, ◌≤◌, Option, Some, None, List, [], ◌∷◌, ◌++◌, map, length}
 use Rattle.std.proofs.Common.{slice_get, Bool, true, false, ◌&&◌, ◌||◌, cond, refl, sym, ◌∙◌, ap, subst, arith, inl, inr, All}
 use Rattle.std.proofs.Common.{pos, negsuc, ℤ, ◌+ℤ◌, ◌*ℤ◌, ◌≤ℤ◌, int_eq}
-use Rattle.std.specs.Prelude.{replicate, slice_index_or}
+use Rattle.std.specs.Prelude.{replicate}
 use Rattle.std.proofs.lemmas.Bool.{and_parts, cases_Bool, cond-true, or_cases}
 use Rattle.std.proofs.lemmas.Bool.Decides.{Decides-int_eq}
 use Rattle.std.proofs.lemmas.Int.{ints}
@@ -18,7 +18,7 @@ use Rattle.xm_lits.specs.Repeating.{AllOf, SomeOf}
 use Rattle.xm_lits.specs.declared.literal.Lit.{Lit}
 use Rattle.xm_colours.specs.Family.{colours_at}
 use Rattle.xm_lp.specs.Answer.{constraint_at, number_at}
-use Rattle.xm_lp.specs.Right.{IsMet, MeetsAll}
+use Rattle.xm_lp.specs.Right.{IsMet}
 use Rattle.xm_lp.specs.declared.decision.Con.{Con}
 use Rattle.xm_model.specs.Component.{Component}
 use Rattle.xm_model.specs.Membership.{IsIn}

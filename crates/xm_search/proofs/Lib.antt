@@ -1,5 +1,6 @@
 pub mod Candidates
 pub mod Choices
+pub mod Citing
 pub mod Closing
 pub mod Finishing
 pub mod Growing

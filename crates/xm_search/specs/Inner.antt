@@ -6,6 +6,7 @@ pub mod Ground
 pub mod Growing
 pub mod Looking
 pub mod Named
+pub mod Places
 pub mod Progress
 pub mod Taken
 pub mod Walking

@@ -1,16 +1,20 @@
 //! What ends a path at once.
 
-ghost use Rattle.std.specs.Prelude.{◌≡◌, ◌<◌, false, List as Items, IfOk, IfNone, IfSome, length};
+ghost use Rattle.std.specs.Prelude.{◌≡◌, ◌⊎◌, ◌<◌, false, List as Items, None, Some, IfOk, IfNone, IfSome, length};
+ghost use Rattle.std.specs.Prelude.{slice_get};
 ghost use Rattle.xm_design.specs.Designed.{Designed};
 ghost use Rattle.xm_flow.specs.ValidLemma.{Lemma};
 ghost use Rattle.xm_lits.specs.Paths.{IsClashOn};
+ghost use Rattle.xm_lits.specs.Paths as paths;
 ghost use Rattle.xm_lits.specs.declared.literal.Lit.{Lit as Literal};
 ghost use Rattle.xm_proof.specs.Argument.{step_of};
 ghost use Rattle.xm_proof.specs.Valid.{Cites};
 ghost use Rattle.xm_search.specs.Inner.Looking.{EndsPath, IsConsistent, any_goal};
+ghost use Rattle.xm_search.specs.Inner.Places.{AreEarliest};
 
+use crate::places::earliest_of;
 use xm_design::Design;
-use xm_lits::{Clash, Lit, clash, is_on_path};
+use xm_lits::{Clash, Lit, are_same, clash};
 use xm_model::{List, OutOfMemory};
 use xm_proof::Node;
 
@@ -42,16 +46,43 @@ pub fn clash_node(design: &Design, path: &List<Lit>) -> Result<Option<Node>, Out
     }
 }
 
-/// The place of the first goal that is on the path.
-pub fn cited(before: &[Lit], path: &[Lit]) -> Option<u32>
-    requires { length before.now < 4294967296 }
-    ensures none { IfNone result (any_goal path.now before.now ≡ false) }
-    ensures some { IfSome result (Cites before.now path.now) }
+/// The first place of the literal among the goals.
+fn place_of(before: &[Lit], earliest: &List<u32>, lit: &Lit) -> Option<u32>
+    requires few { length before.now < 4294967296 }
+    requires earliest { AreEarliest before.now earliest.now.items }
+    ensures none { IfNone result (paths.is_on_path before.now lit.now ≡ false) }
+    ensures some { IfSome result (λ k. slice_get before.now k ≡ Some lit.now) }
 {
-    for k in 0..before.len() {
-        if is_on_path(path, &before[k]) {
+    for k in earliest_of(earliest, lit)..before.len() {
+        if are_same(&before[k], lit) {
             return Some(k as u32);
         }
     }
     None
+}
+
+/// The lesser of two places.
+fn lesser(one: Option<u32>, other: Option<u32>) -> Option<u32>
+    ensures none { IfNone result ((one ≡ None) × (other ≡ None)) }
+    ensures some { IfSome result (λ k. (one ≡ Some k) ⊎ (other ≡ Some k)) }
+{
+    match (one, other) {
+        (Some(k), Some(n)) => { if n < k { Some(n) } else { Some(k) } }
+        (Some(k), None) => Some(k),
+        (None, found) => found,
+    }
+}
+
+/// The place of the first goal that is on the path.
+pub fn cited(before: &[Lit], earliest: &List<u32>, path: &[Lit]) -> Option<u32>
+    requires few { length before.now < 4294967296 }
+    requires earliest { AreEarliest before.now earliest.now.items }
+    ensures none { IfNone result (any_goal path.now before.now ≡ false) }
+    ensures some { IfSome result (Cites before.now path.now) }
+{
+    let mut least = None;
+    for lit in path {
+        least = lesser(least, place_of(before, earliest, lit));
+    }
+    least
 }

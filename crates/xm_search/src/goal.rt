@@ -8,6 +8,7 @@ ghost use Rattle.xm_search.specs.Inner.Goals.{IsFaultOn, IsGoalFound, IsTurned, 
 ghost use Rattle.xm_search.specs.Inner.Ground.{IsGround, lemmas_of};
 ghost use Rattle.xm_search.specs.Inner.Growing.{BeginsWith, IsGrown, IsUnderWay, pending, steps_of};
 ghost use Rattle.xm_search.specs.Inner.Looking.{IsSeen};
+ghost use Rattle.xm_search.specs.Inner.Places.{AreEarliest};
 ghost use Rattle.xm_search.specs.Trees.{root};
 
 use crate::choosing::Chosen;
@@ -125,6 +126,7 @@ fn turn(
 ) -> Result<Turned, SearchFault>
     requires ground { IsGround design.now ground.now }
     requires few { length before.now < 4294967296 }
+    requires earliest { AreEarliest before.now ground.now.earliest.items }
     requires some { 0 < length growth.leaves.items }
     requires grown { IsUnderWay design.now (lemmas_of ground.now) before.now goal budget growth }
     ensures turned { IfOk result (IsTurned design.now (lemmas_of ground.now) before.now goal budget
@@ -179,6 +181,7 @@ pub fn search_goal(
 ) -> Result<GoalFound, SearchFault>
     requires ground { IsGround design.now ground.now }
     requires few { length before.now < 4294967296 }
+    requires earliest { AreEarliest before.now ground.now.earliest.items }
     requires budget { 1 ≤ budget }
     ensures found { IfOk result (IsGoalFound design.now (lemmas_of ground.now) before.now goal budget) }
     ensures fault { IfErr result (IsFaultOn design.now (lemmas_of ground.now) goal) }

@@ -14,6 +14,7 @@ mod laws;
 mod look;
 mod near;
 mod order;
+mod places;
 mod searching;
 mod walk;
 

@@ -8,6 +8,7 @@ ghost use Rattle.xm_proof.specs.Valid.{Closes};
 ghost use Rattle.xm_search.specs.Inner.Choosing.{AllAnswered, split_by};
 ghost use Rattle.xm_search.specs.Inner.Ground.{IsGround, lemmas_of};
 ghost use Rattle.xm_search.specs.Inner.Looking.{EndsPath, IsSeen};
+ghost use Rattle.xm_search.specs.Inner.Places.{AreEarliest};
 ghost use Rattle.xm_search.specs.Partial.{IsUndecided};
 
 use crate::ask::{Answer, ask, near_sum};
@@ -90,9 +91,11 @@ fn ending(
     alloc: Global,
     design: &Design,
     before: &[Lit],
+    earliest: &List<u32>,
     path: &List<Lit>,
 ) -> Result<Option<Node>, OutOfMemory>
-    requires { length before.now < 4294967296 }
+    requires few { length before.now < 4294967296 }
+    requires earliest { AreEarliest before.now earliest.now.items }
     ensures none { IfOk result (λ found. IfNone found (IsUndecided design.now before.now path.now.items)) }
     ensures some { (lemmas : Items Lemma) → IfOk result (λ found. IfSome found (λ node.
         EndsPath design.now lemmas before.now path.now.items (step_of node))) }
@@ -100,7 +103,7 @@ fn ending(
     if let Some(node) = clash_node(design, path)? {
         return Ok(Some(node));
     }
-    if let Some(k) = cited(before, path.as_slice()) {
+    if let Some(k) = cited(before, earliest, path.as_slice()) {
         return Ok(Some(Node::Cite(k)));
     }
     match end_rule(alloc, design, path.as_slice())? {
@@ -176,9 +179,10 @@ pub fn look_at(
 ) -> Result<Look, OutOfMemory>
     requires ground { IsGround design.now ground.now }
     requires few { length before.now < 4294967296 }
+    requires earliest { AreEarliest before.now ground.now.earliest.items }
     ensures { IfOk result (IsSeen design.now (lemmas_of ground.now) before.now path.now.items left) }
 {
-    if let Some(node) = ending(alloc, design, before, path)? {
+    if let Some(node) = ending(alloc, design, before, &ground.earliest, path)? {
         return Ok(Look::Ends(node, 0));
     }
     look_further(alloc, design, ground, path.as_slice(), left)

@@ -9,6 +9,7 @@ ghost use Rattle.xm_proof.specs.declared.proof.Node.TheVariants as node;
 ghost use Rattle.xm_search.specs.GoalOrder.{IsGoalOrder};
 ghost use Rattle.xm_search.specs.Inner.Formed.{IsGoodGoal};
 ghost use Rattle.xm_search.specs.Inner.Ground.{IsGround, lemmas_of};
+ghost use Rattle.xm_search.specs.Inner.Places.{AreEarliest};
 ghost use Rattle.xm_search.specs.Inner.Progress.{Adds, FitsFound, IsHalted, IsNext, IsProgress, TakesIn};
 ghost use Rattle.xm_search.specs.Searched.{IsFault, IsFound};
 
@@ -106,6 +107,7 @@ fn search_next(
 ) -> Result<Next, SearchFault>
     requires ground { IsGround design.now ground.now }
     requires few { length order.now < 4294967296 }
+    requires earliest { AreEarliest order.now ground.now.earliest.items }
     requires order { IsGoalOrder design.now order.now }
     requires place { place < length order.now }
     requires budget { 1 ≤ budget }
@@ -182,6 +184,7 @@ fn search_all(
 ) -> Result<Found, SearchFault>
     requires ground { IsGround design.now ground }
     requires few { length order.now < 4294967296 }
+    requires earliest { AreEarliest order.now ground.earliest.items }
     requires order { IsGoalOrder design.now order.now }
     requires budget { 1 ≤ budget }
     ensures found { IfOk result (IsFound design.now (lemmas_of ground) budget) }
@@ -219,10 +222,11 @@ pub fn search(
     ensures found { IfOk result (IsFound design.now (map lemma_of lemmas.now) budget) }
     ensures fault { IfErr result (IsFault design.now (map lemma_of lemmas.now)) }
 {
-    let ground = ground_of(alloc, design, lemmas)?;
     let order = goal_order(alloc, design)?;
-    if order.len() > u32::MAX as usize {
+    let goals = order.as_slice();
+    if goals.len() > u32::MAX as usize {
         return Err(SearchFault::OutOfMemory);
     }
-    search_all(alloc, design, ground, order.as_slice(), budget)
+    let ground = ground_of(alloc, design, lemmas, goals)?;
+    search_all(alloc, design, ground, goals, budget)
 }
