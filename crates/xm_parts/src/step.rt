@@ -4,7 +4,7 @@ ghost use Rattle.std.specs.Prelude.{◌≡◌, ◌<◌, ◌≤◌, ℕ, false, l
 ghost use Rattle.xm_model.specs.Component.{Content, component_of, content_of};
 ghost use Rattle.xm_model.specs.Frame.{IsFrame};
 ghost use Rattle.xm_model.specs.Views.{choice_at};
-ghost use Rattle.xm_model.specs.Next.{content_after, move, next};
+ghost use Rattle.xm_model.specs.Next.{content_after, left, move, next};
 ghost use Rattle.xm_parts.specs.Inner.Going.{AllGoOn, CanGoOn, HasGone, HasPlace};
 ghost use Rattle.xm_model.specs.Signals.{Signals, packets_in};
 ghost use Rattle.xm_parts.specs.Kept.{label_at};
@@ -57,6 +57,16 @@ fn packets(cell: &Cell) -> &[u8]
     }
 }
 
+/// The packets that stay where the oldest leaves, if one leaves.
+fn rest_of(packets: &[u8], leaves: Option<u8>) -> &[u8]
+    ensures { result.now ≡ left packets.now leaves }
+{
+    match leaves {
+        Some(_) if !packets.is_empty() => &packets[1..],
+        _ => packets,
+    }
+}
+
 /// Makes the side that a merge prefers that of `from`. The next content of another primitive, a queue apart, asks
 /// nothing of the one before.
 fn take_side(prim: &Prim, from: &Cell, to: &mut Cell)
@@ -82,12 +92,8 @@ fn go_on(prim: &Prim, from: &Cell, wires: &[Wire], far: &[Option<u8>], to: &mut 
     match prim {
         Prim::Queue { input, out, .. } => {
             if let Cell::Packets(q) = to {
-                refill(q, packets(from));
-                advance_queue(
-                    q,
-                    part_move(wires, far, *out),
-                    part_move(wires, far, *input),
-                );
+                refill(q, rest_of(packets(from), part_move(wires, far, *out)));
+                advance_queue(q, None, part_move(wires, far, *input));
             }
         }
         _ => {
