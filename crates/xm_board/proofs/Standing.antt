@@ -5,7 +5,7 @@ use Rattle.std.proofs.lemmas.Bool.{cases_lt}
 use Rattle.std.proofs.lemmas.Bool.Decides.{eqb_tells}
 use Rattle.std.proofs.lemmas.List.{get_or-set_other, get_or-set_same, length-replicate, length-set}
 use Rattle.xm_board.specs.Core.{AllDone, Core, IsCore, IsMutual, IsReady, IsWhole, cycle, given_back, is_near, is_out, posted, recalled, rounded, started, stopped, taken}
-use Rattle.xm_board.specs.Schedule.{JobOf, NoFloorFell, NoneFell, NoneStale, Runs, SchedulesStand, SomeReady, Takes, done, finished, give_back, is_stopped, job, look, not_yet, post, recall, round, stop, take}
+use Rattle.xm_board.specs.Schedule.{JobOf, NoFloorFell, NoneFell, NoneStale, PostsRise, Runs, SchedulesStand, SomeReady, Takes, done, finished, give_back, is_stopped, job, look, not_yet, post, recall, round, stop, take}
 
 -- ---- what a step changes
 
@@ -282,6 +282,18 @@ floors c d rose count s t before after =
     let low = before.least after.part (let part = after.is_part in omega arith) in
     let up = rose after.part in
     omega arith
+
+-- a part that is out is one of the parts
+set_within : (xs : List Bool) (p : ℕ) → slice_index_or xs p false ≡ true → p < length xs
+set_within [] p e = absurd cc
+set_within (x ∷ xs) zero e = omega arith
+set_within (x ∷ xs) (suc p) e = (let rest = set_within xs p e in omega arith)
+
+pub posts : PostsRise
+posts c p core out =
+    let inside = set_within c.out p out in
+    let whole = core.whole.out in
+    floors c (posted c p) (λ q. rises c p q core.whole (omega arith)) refl
 
 pub stand : SchedulesStand
 stand c d js core runs =

@@ -60,3 +60,7 @@ SchedulesStand = (c d : Core) (js : List JobOf) → IsCore c → Runs c [] d js 
 abbrev pub SomeReady : Type 0
 SomeReady = (c : Core) (late : ℕ) → IsCore c → late < c.count → cycle c late < c.target
     → ((p : ℕ) → p < c.count → is_out c p ≡ false) → (p : ℕ) × IsReady c p
+
+-- the post of a part that is out lowers no floor
+abbrev pub PostsRise : Type 0
+PostsRise = (c : Core) (p : ℕ) → IsCore c → is_out c p ≡ true → NoFloorFell c (posted c p)

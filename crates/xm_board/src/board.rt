@@ -111,6 +111,14 @@ impl<'a> Board<'a> {
         })
     }
 
+    /// No part is past the target, and neighbours are at most one cycle apart. The call does nothing, and its caller has
+    /// that fact.
+    pub fn is_core(&self)
+        ensures { IsCore self.now.core }
+    {
+        self.core.is_core();
+    }
+
     /// The least cycle of all parts.
     pub fn floor(&self) -> u32
         ensures { IsFloor self.now.core result }

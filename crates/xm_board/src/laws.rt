@@ -1,6 +1,6 @@
 //! What every schedule of a board's events keeps.
 
-ghost use Rattle.xm_board.specs.Schedule.{SchedulesStand, SomeReady};
+ghost use Rattle.xm_board.specs.Schedule.{PostsRise, SchedulesStand, SomeReady};
 
 /// After every schedule the core is one, no job that is out would be stale, and no cycle and no floor has fallen.
 pub fn schedules_stand()
@@ -11,4 +11,9 @@ pub fn schedules_stand()
 /// a part where none is out.
 pub fn some_ready()
     ensures { SomeReady }
+{}
+
+/// The post of a part that is out lowers no floor.
+pub fn posts_rise()
+    ensures { PostsRise }
 {}

@@ -20,4 +20,4 @@ pub use answers::{Posted, Take};
 pub use board::Board;
 pub use board_core::{BoardCore, Choice};
 pub use job::{Done, Job};
-pub use laws::{schedules_stand, some_ready};
+pub use laws::{posts_rise, schedules_stand, some_ready};
