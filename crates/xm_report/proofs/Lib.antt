@@ -1,3 +1,4 @@
+mod Holding
 mod Joining
 mod Rising
 mod Zipping

@@ -1,4 +1,5 @@
-//! Printed texts: the text of a check, of invariants, of a verdict and of what a search finds, and the lines of error.
+//! Printed texts: the text of a check, of invariants, of a verdict, of a snapshot and of what a search finds, and the lines of
+//! error.
 #![tactic(auto)]
 
 mod check;
@@ -6,6 +7,7 @@ mod invariants;
 mod lines;
 mod pieces;
 mod search;
+mod snap;
 mod verdict;
 
 pub use check::check_text;
@@ -15,4 +17,5 @@ pub use lines::{
     tape_line, width_line, wiring_line,
 };
 pub use search::{open_text, spent_text};
+pub use snap::snap_text;
 pub use verdict::verdict_text;
