@@ -1,3 +1,2 @@
 mod Over
 mod Stepped
-pub mod Within

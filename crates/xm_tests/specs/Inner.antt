@@ -1,4 +1,3 @@
 -- What private clauses cite, and no public one.
-pub mod Fitting
 pub mod Over
 pub mod Stepped

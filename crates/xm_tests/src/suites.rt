@@ -1,4 +1,4 @@
-//! A suite for each layer, and what they build on: nets as tables, and names.
+//! A suite for each layer, and what they build on: names, and nets as tables.
 
 mod colours;
 mod cycles;
@@ -8,7 +8,6 @@ mod flow_rows;
 mod invariants;
 mod lists_and_nets;
 mod names;
-mod nets;
 mod orders;
 mod part_runs;
 mod parts;
@@ -17,3 +16,5 @@ mod rows;
 mod runs;
 mod streams;
 mod tapes;
+
+use xm_tests_nets as nets;

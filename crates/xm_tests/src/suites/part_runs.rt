@@ -15,8 +15,7 @@ ghost use Rattle.xm_parts.specs.Rows.{IsRoomyRow, row_of};
 ghost use Rattle.xm_tape.specs.Taped.{Fits, cycles_of};
 ghost use Rattle.xm_tests.specs.Inner.Stepped.{AreRows, AreRowsOf, AreSetFrom, IsUnderway};
 
-use super::nets::{CREDITS, Piece, ROW, X, design_of};
-use super::parts::QUEUES;
+use super::nets::{CREDITS, Piece, QUEUES, ROW, X, design_of};
 use std::alloc::Global;
 use xm_design::{Design, fits_next};
 use xm_model::{Cell, Choice, Frame, List, OutOfMemory, SinkMode, SourceMode, State};

@@ -4,23 +4,13 @@ ghost use Rattle.std.specs.Prelude.{◌≡◌, length};
 ghost use Rattle.xm_model.specs.Next.{IsFittingState};
 ghost use Rattle.xm_model.specs.Views.{content_at};
 
-use super::nets::{MOVES_X, ONE_WAY_SWITCH, Piece, ROW, WAITS, X, design_of};
+use super::nets::{MOVES_X, ONE_WAY_SWITCH, Piece, QUEUES, ROW, WAITS, X, design_of};
 use std::alloc::Global;
 use std::test::Fail;
 use xm_design::Design;
 use xm_model::{Choice, Frame, OutOfMemory, Side, SinkMode, SourceMode, State};
 use xm_parts::{Glue, PartFault, Parts, Snapshot, fit_law, islands, project};
 use xm_step::{Evaluator, blank, frame, reset};
-
-/// Four queues in a row: a net of 5 channels and 1 colour.
-pub const QUEUES: [Piece; 6] = [
-    Piece::Source(0, &[X], SourceMode::Keep),
-    Piece::Queue(0, 1, 1, &[]),
-    Piece::Queue(1, 2, 1, &[]),
-    Piece::Queue(2, 3, 1, &[]),
-    Piece::Queue(3, 4, 1, &[]),
-    Piece::Sink(4, SinkMode::Keep),
-];
 
 /// A queue beside a function, whose two channels are linked by it: a net of 4 channels and 1 colour.
 const BYPASSED: [Piece; 5] = [

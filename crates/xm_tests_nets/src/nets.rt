@@ -3,7 +3,7 @@
 ghost use Rattle.std.specs.Prelude.{◌<◌, ◌≤◌, All, IsTrue, map};
 ghost use Rattle.xm_model.specs.Component.{component_of};
 ghost use Rattle.xm_model.specs.Net.{IsColourMap, IsWithinLimits, network_of};
-ghost use Rattle.xm_tests.specs.Inner.Fitting.{Fits};
+ghost use Rattle.xm_tests_nets.specs.Inner.Fitting.{Fits};
 
 use std::alloc::Global;
 use xm_design::Design;
@@ -36,6 +36,16 @@ pub const ROW: [Piece; 3] = [
     Piece::Source(0, &[X], SourceMode::Keep),
     Piece::Queue(0, 1, 1, &[]),
     Piece::Sink(1, SinkMode::Keep),
+];
+
+/// Four queues in a row: a net of 5 channels and 1 colour.
+pub const QUEUES: [Piece; 6] = [
+    Piece::Source(0, &[X], SourceMode::Keep),
+    Piece::Queue(0, 1, 1, &[]),
+    Piece::Queue(1, 2, 1, &[]),
+    Piece::Queue(2, 3, 1, &[]),
+    Piece::Queue(3, 4, 1, &[]),
+    Piece::Sink(4, SinkMode::Keep),
 ];
 
 /// A fork whose outputs are joined at once, so that each side waits for the other: a net of 4 channels and

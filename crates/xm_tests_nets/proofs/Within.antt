@@ -8,7 +8,7 @@ use Rattle.xm_model.specs.Component.{Component, Source, Sink, Queue, Function, F
 use Rattle.xm_model.specs.Net.{FitsComponent, IsWithinLimits, capacity_of, inputs, network_of, outputs}
 use Rattle.xm_model.specs.Limits.{most_channels, most_colours, most_primitives}
 use Rattle.xm_model.specs.declared.primitive.Primitive.{Primitive}
-use Rattle.xm_tests.specs.Inner.Fitting.{Fits, FitsPorts}
+use Rattle.xm_tests_nets.specs.Inner.Fitting.{Fits, FitsPorts}
 
 one : (n c : ℕ) → c < n → All (λ k. k < n) (c ∷ [])
 one n c h = All-cons (λ k. k < n) c [] h (All-nil (λ k. k < n))

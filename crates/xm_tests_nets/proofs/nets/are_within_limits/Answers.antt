@@ -1,6 +1,6 @@
 use Rattle.std.proofs.Common.{refl}
-use Rattle.xm_tests.proofs.Within.{within_limits}
-use Rattle.xm_tests.proofs.suites.nets.are_within_limits.Goals as goal
+use Rattle.xm_tests_nets.proofs.Within.{within_limits}
+use Rattle.xm_tests_nets.proofs.nets.are_within_limits.Goals as goal
 
 pub returns : goal.returns
 returns c = λ fit.

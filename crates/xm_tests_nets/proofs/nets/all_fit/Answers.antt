@@ -4,8 +4,8 @@ use Rattle.std.proofs.lemmas.List.Elements.{All-map, All-more}
 use Rattle.std.specs.List.{All}
 use Rattle.xm_model.specs.Component.{component_of}
 use Rattle.xm_model.specs.declared.primitive.Primitive.{Primitive}
-use Rattle.xm_tests.specs.Inner.Fitting.{Fits}
-use Rattle.xm_tests.proofs.suites.nets.all_fit.Goals as goal
+use Rattle.xm_tests_nets.specs.Inner.Fitting.{Fits}
+use Rattle.xm_tests_nets.proofs.nets.all_fit.Goals as goal
 
 pub loop-prim-preserved : goal.loop-prim-preserved
 loop-prim-preserved c =

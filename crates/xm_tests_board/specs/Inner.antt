@@ -1,0 +1,2 @@
+-- What private clauses cite, and no public one.
+pub mod Stays

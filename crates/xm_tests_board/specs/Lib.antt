@@ -1,0 +1,2 @@
+-- What the tests' own contracts cite.
+pub mod Inner

@@ -1,0 +1,2 @@
+-- What the builder's own contracts cite.
+pub mod Inner
