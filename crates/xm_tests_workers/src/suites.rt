@@ -1,5 +1,6 @@
-//! A suite for turns and one for workers, and the ring that workers work on.
+//! Suites for turns, snapshots and workers, and the ring that workers work on.
 
 mod ring;
+mod snapshots;
 mod turns;
 mod workers;

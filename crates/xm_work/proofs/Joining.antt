@@ -1,5 +1,5 @@
 -- The text and the counts of one round after those before it.
-use Rattle.std.proofs.Common.{◌≡◌, ℕ, zero, suc, ◌+◌, ◌-◌, ◌≤◌, List, [], ◌++◌, Option, sym, ap, ap₂, ◌∙◌, subst}
+use Rattle.std.proofs.Common.{◌≡◌, ℕ, zero, suc, ◌+◌, ◌-◌, ◌≤◌, List, ◌++◌, Option, sym, ap, ap₂, ◌∙◌}
 use Rattle.std.proofs.Common.{arith, append_assoc}
 use Rattle.std.proofs.Common.{add-suc}
 use Rattle.std.proofs.lemmas.List.{append-nil}
@@ -46,6 +46,7 @@ pub counts_go_on : {N S : Type 0} (is_of : N → S → Type 0) (cycle_of : S →
     (counts : List S) → ((s : S) → is_of r s → is_of r' s) → seen ≤ seen'
     → AreCounts is_of cycle_of w n r seen counts → AreCounts is_of cycle_of w n r' seen' counts
 counts_go_on is_of cycle_of w n r r' seen seen' counts goes later it = record {
+  few = it.few;
   each = λ i s at. goes s (it.each i s at);
   due = it.due;
   seen_all = λ i s at. let low = it.seen_all i s at in omega arith;

@@ -1,2 +1,4 @@
+mod Crossing
 mod Joining
 mod Underway
+mod Telling

@@ -6,9 +6,10 @@ abbrev pub least_cycle : ℕ → ℕ → ℕ → ℕ
 least_cycle w n i = if w == 1 then n - 1 else i * (n - 1) / (w - 1)
 
 -- the first of w counts over n cycles: snapshots of the run r, each at a cycle from its least one on; their cycles
--- never fall, and none is past `seen`
+-- never fall, and none is past `seen`; there are no more than w
 pub record AreCounts {N S : Type 0} (is_of : N → S → Type 0) (cycle_of : S → ℕ) (w n : ℕ) (r : N) (seen : ℕ)
     (counts : List S) : Type 0 where
+  pub few : length counts ≤ w
   pub each : (i : ℕ) (s : S) → slice_get counts i ≡ Some s → is_of r s
   pub due : (i : ℕ) (s : S) → slice_get counts i ≡ Some s → least_cycle w n i ≤ cycle_of s
   pub seen_all : (i : ℕ) (s : S) → slice_get counts i ≡ Some s → cycle_of s ≤ seen

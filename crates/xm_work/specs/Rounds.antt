@@ -21,3 +21,9 @@ abbrev pub OnWrite : {T : Type 0} → Result T SimFault → Type 0 → Type 0
 OnWrite (Ok x) P = Unit {0}
 OnWrite (Err Write) P = P
 OnWrite (Err OutOfMemory) P = Unit {0}
+
+-- unless a write failed, this holds
+abbrev pub UnlessWrite : {T : Type 0} → Result T SimFault → Type 0 → Type 0
+UnlessWrite (Ok x) P = P
+UnlessWrite (Err Write) P = Unit {0}
+UnlessWrite (Err OutOfMemory) P = P

@@ -2,27 +2,9 @@
 ghost use Rattle.std.specs.Prelude.{◌≡◌, ℕ, ◌≤◌, IfOk};
 ghost use Rattle.xm_work.specs.Taking.{IfJob, IfFinished};
 
+use xm_board::{Posted, Take};
 use xm_model::OutOfMemory;
 use xm_turn::Named;
-
-/// What there is to do.
-pub enum Take<J> {
-    Job(J),
-    /// Nothing before this part is posted, which is out.
-    NotYet(u32),
-    /// Every part has reached the last cycle.
-    Finished,
-    /// Some caller met want of memory.
-    Stopped,
-}
-
-/// Whether a posted job counted.
-#[derive(Clone, Copy, PartialEq, Eq, Debug)]
-pub enum Posted {
-    Taken,
-    /// The job had been recalled. Nothing changed.
-    Stale,
-}
 
 /// A bench of jobs over a run: each takes one part one cycle on. A job and what it made name the run of their bench.
 pub trait Bench: Named {

@@ -96,6 +96,7 @@ fn take_count<B: Bench, G: Gate, R: Wait>(
     requires pass { IsPassOf turn.now pass × IsFree pass }
     requires counts { AreCountsOf B.is_of B.cycle_of watch.now.wanted watch.now.cycles (knows pass) (knows pass).seen
         counts.items }
+    requires few { vec_len counts < watch.now.wanted }
     requires due { spec.least_cycle watch.now.wanted watch.now.cycles (vec_len counts) ≤ (knows pass).seen }
     ensures pass { Returns turn.now (knows pass) result.0 }
     ensures counts { IfOk result.1 (λ ss. AreCountsOf B.is_of B.cycle_of watch.now.wanted watch.now.cycles (knows pass)

@@ -3,9 +3,10 @@ ghost use Rattle.std.specs.Prelude.{◌≡◌, ℕ, ◌<◌, ◌≤◌, IfOk, ve
 ghost use Rattle.xm_work.specs.Counts as spec;
 ghost use Rattle.xm_work.specs.Counts.{AreCounts, NoneMissing};
 
-use crate::bench::{Bench, Take};
+use crate::bench::Bench;
 use crate::counts::{Watch, least_cycle};
 use std::sync::Wait;
+use xm_board::Take;
 use xm_io::Gate;
 use xm_model::OutOfMemory;
 use xm_turn::Named;

@@ -5,7 +5,7 @@ ghost use Rattle.xm_io.specs.Bytes.{AppendsFront};
 ghost use Rattle.xm_io.specs.Faults.{Rose};
 ghost use Rattle.xm_work.specs.Counts.{AreCounts, NoneMissing};
 ghost use Rattle.xm_work.specs.Rounds as rounds;
-ghost use Rattle.xm_work.specs.Rounds.{OnWrite, lines};
+ghost use Rattle.xm_work.specs.Rounds.{OnWrite, UnlessWrite, lines};
 
 use crate::bench::Bench;
 use crate::counts::Watch;
@@ -78,6 +78,17 @@ pub enum SimFault {
     OutOfMemory,
 }
 
+impl From<OutOfMemory> for SimFault {
+    ghost use Rattle.std.specs.Prelude.{◌≡◌};
+    ghost use Rattle.xm_work.specs.declared.rounds.SimFault.TheVariants as fault;
+
+    ghost from_gives = { λ _ f. f ≡ fault.OutOfMemory };
+
+    fn from(_: OutOfMemory) -> SimFault {
+        SimFault::OutOfMemory
+    }
+}
+
 /// A bench at the end of its run, and the counts that were taken on the way.
 #[derive(Drop)]
 pub struct Simulated<B: Drop, S: Drop> {
@@ -86,7 +97,7 @@ pub struct Simulated<B: Drop, S: Drop> {
 }
 
 /// The last cycle of the round that begins at `first`.
-fn round_end(first: u32, cycles: u32) -> u32
+pub(crate) fn round_end(first: u32, cycles: u32) -> u32
     requires { first < cycles }
     ensures { result ≡ rounds.round_end first cycles }
 {
@@ -112,7 +123,7 @@ fn write_round<B: Rounds, K: Sink>(bench: &mut B, out: &mut K) -> Result<(), Sim
         → OnErr result (AppendsFront (K.held out.old) (K.held out.new) (lines line (B.next_line (B.run bench.old))
         (suc (B.target (B.run bench.old)) - B.next_line (B.run bench.old)))) }
     ensures cause { OnWrite result (Rose (K.faults out.old) (K.faults out.new)) }
-    ensures kept { OnOk result (K.faults out.new ≡ K.faults out.old) }
+    ensures kept { UnlessWrite result (K.faults out.new ≡ K.faults out.old) }
 {
     match bench.make_text() {
         Ok(()) => match write_all(out, bench.text()) {
@@ -153,7 +164,7 @@ fn one_round<B: Rounds, K: Sink, G: Gate, R: Threads + Wait + Sync>(
         → OnErr result (AppendsFront (K.held out.old) (K.held out.new)
         (lines line (B.next_line (B.run bench)) (suc watch.now.last - B.next_line (B.run bench)))) }
     ensures cause { OnWrite result (Rose (K.faults out.old) (K.faults out.new)) }
-    ensures kept { OnOk result (K.faults out.new ≡ K.faults out.old) }
+    ensures kept { UnlessWrite result (K.faults out.new ≡ K.faults out.old) }
 {
     match run_round(rt, alloc, bench, workers, watch, counts, gate) {
         Ok((mut bench, counts)) => match write_round(&mut bench, out) {
@@ -194,7 +205,7 @@ pub fn run_rounds<B: Rounds, K: Sink, G: Gate, R: Threads + Wait + Sync>(
     ensures front { (line : ℕ → List ℕ) → B.has_lines (B.whole (B.run bench)) line
         → OnErr result (AppendsFront (K.held out.old) (K.held out.new) (lines line 0 cycles)) }
     ensures cause { OnWrite result (Rose (K.faults out.old) (K.faults out.new)) }
-    ensures kept { OnOk result (K.faults out.new ≡ K.faults out.old) }
+    ensures kept { UnlessWrite result (K.faults out.new ≡ K.faults out.old) }
 {
     let mut bench = bench;
     let mut counts = Vec::new(alloc);

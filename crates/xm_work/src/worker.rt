@@ -5,8 +5,9 @@ ghost use Rattle.xm_turn.specs.Views.{IsLater};
 ghost use Rattle.xm_work.specs.Passes.{Returns, HasSeenTarget};
 ghost use Rattle.xm_work.specs.Taking.{IfJob, IfFinished};
 
-use crate::bench::{Bench, Take};
+use crate::bench::Bench;
 use std::sync::Wait;
+use xm_board::Take;
 use xm_io::Gate;
 use xm_model::OutOfMemory;
 use xm_turn::{Named, Pass, Turn};

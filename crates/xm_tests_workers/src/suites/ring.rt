@@ -3,9 +3,10 @@
 ghost use Rattle.std.specs.Prelude.{◌≡◌, ◌≤◌, ◌-◌, ◌^◌, ℕ, suc, IfOk, OnOk, List as Items, [], ◌∷◌, replicate};
 
 use std::alloc::Global;
+use xm_board::{Posted, Take};
 use xm_model::{List, OutOfMemory};
 use xm_turn::Named;
-use xm_work::{Bench, Posted, Rounds, Take};
+use xm_work::{Bench, Rounds};
 
 /// The run of a ring. No value of it is made.
 pub struct Run {

@@ -1,4 +1,4 @@
-use Rattle.std.proofs.Common.{◌≡◌, ℕ, suc, List, sym, ◌∙◌, subst, arith, rules}
+use Rattle.std.proofs.Common.{◌≡◌, suc, sym, ◌∙◌, subst, arith, rules}
 use Rattle.std.specs.Io.KnownBytes.{Appends}
 use Rattle.xm_work.specs.Rounds.{lines}
 use Rattle.xm_work.proofs.Joining.{appends_round, front_round, counts_go_on}
