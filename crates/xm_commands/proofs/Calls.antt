@@ -7,7 +7,8 @@ use Rattle.xm_commands.proofs.Whys.{why_unwritten, why_words, why_write, why_wri
 use Rattle.xm_commands.specs.Calls.{generate_options, generate_with, reads_document}
 use Rattle.xm_commands.specs.Generating.{PrintsGenerated, PrintsGeneratedFront, ends_generate}
 use Rattle.xm_commands.specs.Inner.CallEnded.{HasCalled, HasGenerated, IsWithin}
-use Rattle.xm_commands.specs.Inner.WhyEnded.{Change, HasEnded, IsUnharmed, IsUntouched}
+use Rattle.xm_commands.specs.Change.{Change}
+use Rattle.xm_commands.specs.Inner.WhyEnded.{HasEnded, IsUnharmed, IsUntouched}
 use Rattle.xm_commands.specs.Status.{most_bytes, status_of}
 use Rattle.xm_commands.specs.declared.call.Call.{Call}
 use Rattle.xm_commands.specs.declared.call.Call.TheVariants as call

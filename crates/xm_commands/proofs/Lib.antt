@@ -10,6 +10,9 @@ mod Proving
 mod Ran
 mod Refusing
 mod Rounds
+mod Served
+mod Shares
+mod Simulated
 mod Verified
 mod Whys
 mod Written

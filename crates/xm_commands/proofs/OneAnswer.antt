@@ -1,21 +1,22 @@
 -- One answer for given bytes: one output, no output of what is refused, one refusal but for its loop.
 use Rattle.std.proofs.Common.{◌≡◌, ℕ, true, false, List, [], length, Result, Ok, Err, refl, sym, ap, ap₂, ◌∙◌, inl, inr, subst, arith}
 use Rattle.std.proofs.Common.{◌⊎◌}
-use Rattle.std.proofs.lemmas.Bool.{cases_order}
+use Rattle.std.proofs.lemmas.Bool.{cases_order, eqb-true}
 use Rattle.serde_json.specs.Data.{Data}
 use Rattle.serde_json.specs.Find.{get}
-use Rattle.std.specs.Prelude.{◌≤◌, Option, Some, None, codes}
+use Rattle.std.specs.Prelude.{◌<◌, ◌≤◌, ◌==◌, Option, Some, None, codes}
 use Rattle.xm_colours.specs.Family.{IsClosed, colours_at}
 use Rattle.xm_check.specs.Laws.{OneVerdict}
 use Rattle.xm_commands.proofs.OneBasis.{not_both_ends, same_overflow, same_pairs, same_proof, same_said, same_sets, same_text}
 use Rattle.xm_commands.proofs.OneColours.{same_first}
 use Rattle.xm_commands.proofs.OneText.{same_text as same_run_text}
-use Rattle.xm_commands.specs.OneAnswer.{NamesLoop, NoOutputOfRefused, OneOutput, OneRefusal, has_one_output, may_differ}
-use Rattle.xm_commands.specs.Output.{AreInvariants, IsDesignOf, IsOutput, IsVerdictOf, of_check, of_inv, of_prove, of_run, of_verify, outcome_of, proof_of}
-use Rattle.xm_commands.specs.Refusal.{AsksForFlow, AsksForInvariants, AsksForRights, HasProof, Refuses, document_status, of_colour, of_document, of_form, of_loop, of_overflow, of_persistency, of_pivots, of_tape, of_width}
+use Rattle.xm_commands.specs.OneAnswer.{NamesLoop, NoOutputOfRefused, OneOutput, OneRefusal, has_one_output, has_one_refusal, may_differ}
+use Rattle.xm_commands.specs.Output.{AreInvariants, IsDesignOf, IsOutput, IsVerdictOf, of_check, of_inv, of_prove, of_run, of_sim, of_verify, of_watched, outcome_of, proof_of}
+use Rattle.xm_commands.specs.Refusal.{AsksForFlow, AsksForInvariants, AsksForRights, AsksForTape, HasProof, HasTape, Refuses, document_status, of_colour, of_document, of_form, of_loop, of_overflow, of_persistency, of_pivots, of_tape, of_width}
 use Rattle.xm_commands.specs.declared.command.Command.{Command}
 use Rattle.xm_commands.specs.declared.command.Command.TheVariants as command
 use Rattle.xm_commands.specs.declared.command.Outcome.{Outcome}
+use Rattle.xm_commands.specs.declared.command.Simulation.{Simulation}
 use Rattle.xm_design.specs.Designed.{Designed, IsColourRefused, IsLoopRefused}
 use Rattle.xm_elim.specs.Determined.{OneEnd, OneOverflow}
 use Rattle.xm_elim.specs.Elimination.{ExclusiveEnds}
@@ -40,6 +41,7 @@ use Rattle.xm_report.specs.Verdict.{verdict_text}
 use Rattle.xm_shape.specs.NamedNet.{NamedNet}
 use Rattle.xm_shape.specs.Fault.{Fault, not_json}
 use Rattle.xm_shape.specs.Shape.{named_net_in}
+use Rattle.xm_tape.specs.Fault as tape
 use Rattle.xm_tape.specs.Reading.{tape_in}
 use Rattle.xm_tape.specs.Taped.{Taped, chosen, cycles_of, rows_of}
 use Rattle.xm_trace.specs.Text.{IsTextOfRun}
@@ -99,6 +101,10 @@ run_texts one_run doc design tape text other is channels a b =
 abbrev pub Same : Outcome → Outcome → List ℕ → List ℕ → Type 0
 Same turned other_turned text other = (turned ≡ other_turned) × (text ≡ other)
 
+-- without snapshots there are none
+watched_twice : (it : Simulation) → 0 < it.watch → (it.watch == 0) ≡ true → ⊥
+watched_twice it some none = (let zero_is = eqb-true it.watch 0 none in omega arith)
+
 pub outputs : OneRun → OneEnd → OneVerdict → {bytes : List ℕ} {it : Command} {turned other_turned : Outcome} {text other : List ℕ} → has_one_output it ≡ true → IsOutput bytes it turned text → IsOutput bytes it other_turned other → Same turned other_turned text other
 outputs one_run one_end one_verdict {bytes = bytes} determined (of_check doc a read is_a) (of_check other b read' is_b) =
     let same = one_document bytes doc other read read' in
@@ -117,6 +123,9 @@ outputs one_run one_end one_verdict {bytes = bytes} determined (of_verify doc a 
     let said = same_said doc a b is_a (design_of bytes other doc b read' read is_b) one_verdict v w p (subst (λ (x : Doc). IsVerdictOf x b w) same q) in
     (ap outcome_of said, ap verdict_text said)
 outputs one_run one_end one_verdict determined (of_prove _ _ _ _ _ _ _ _ _ _) (of_prove _ _ _ _ _ _ _ _ _ _) = absurd cc
+outputs one_run one_end one_verdict determined (of_sim it text none p) (of_sim it' text' none' q) = outputs one_run one_end one_verdict refl p q
+outputs one_run one_end one_verdict determined (of_watched it _ _ _ _ some _ _ _ _) _ = absurd (watched_twice it some determined)
+outputs one_run one_end one_verdict determined _ (of_watched it _ _ _ _ some _ _ _ _) = absurd (watched_twice it some determined)
 
 -- ---- what is refused has no design, or no tape
 
@@ -142,15 +151,21 @@ has_design (of_run doc design tape text read is taped run) = record { doc = doc;
 has_design (of_inv doc design lemmas read is are) = record { doc = doc; design = design; read = read; is = is }
 has_design (of_verify doc design said read is it) = record { doc = doc; design = design; read = read; is = is }
 has_design (of_prove doc design budget lemmas turned text read is searched found) = record { doc = doc; design = design; read = read; is = is }
+has_design (of_sim it text none run) = has_design run
+has_design (of_watched it doc design tape text some read is taped watched) = record { doc = doc; design = design; read = read; is = is }
 
-record HasTape (bytes : List ℕ) : Type 0 where
+record HasRun (bytes : List ℕ) : Type 0 where
   doc : Doc
   tape : Taped
   read : document_in bytes ≡ Ok doc
   taped : tape_in doc.net doc.tape ≡ Ok tape
 
-has_tape : {bytes text : List ℕ} {turned : Outcome} → IsOutput bytes command.Run turned text → HasTape bytes
-has_tape (of_run doc design tape text read is taped run) = record { doc = doc; tape = tape; read = read; taped = taped }
+-- a command that runs the tape and has an output found one
+has_run : {bytes text : List ℕ} {it : Command} {turned : Outcome} → AsksForTape it → IsOutput bytes it turned text → HasRun bytes
+has_run asks (of_run doc design tape text read is taped run) = record { doc = doc; tape = tape; read = read; taped = taped }
+has_run asks (of_sim it text none run) = has_run tt run
+has_run asks (of_watched it doc design tape text some read is taped watched) = record { doc = doc; tape = tape; read = read; taped = taped }
+has_run asks _ = absurd asks
 
 record HasInvariants (bytes : List ℕ) : Type 0 where
   doc : Doc
@@ -185,6 +200,10 @@ narrow {bytes = bytes} doc design asks read is (of_verify other b _ read' is_b s
 narrow {bytes = bytes} doc design asks read is (of_prove other b _ _ _ _ read' is_b searched _) =
     let pairs = same_pairs doc b design (design_of bytes other doc b read' read is_b) is in
     omega (arith, pairs, searched.invariants.has_flow.narrow)
+narrow doc design asks read is (of_sim it text none run) = (let some = asks.0 in absurd (omega arith))
+narrow {bytes = bytes} doc design asks read is (of_watched it other b tape text some read' is_b taped watched) =
+    let pairs = same_pairs doc b design (design_of bytes other doc b read' read is_b) is in
+    omega (arith, pairs, watched.invariants.has_flow.narrow)
 
 -- a command that asks for rights and has an output found that they are granted
 granted : {bytes : List ℕ} {it : Command} {turned : Outcome} {text : List ℕ} (doc : Doc) (design : Designed) → AsksForRights it doc design → document_in bytes ≡ Ok doc → IsDesignOf doc design → IsOutput bytes it turned text
@@ -196,14 +215,19 @@ granted {bytes = bytes} doc design asks read is (of_verify other b _ read' is_b 
     subst AllGranted ((design_of bytes other doc b read' read is_b).net ∙ sym is.net) said.granted
 granted {bytes = bytes} doc design asks read is (of_prove other b _ _ _ _ read' is_b searched _) =
     subst AllGranted ((design_of bytes other doc b read' read is_b).net ∙ sym is.net) searched.granted
+granted doc design asks read is (of_sim _ _ _ _) = absurd asks
+granted doc design asks read is (of_watched _ _ _ _ _ _ _ _ _ _) = absurd asks
 
 -- a command that asks for invariants and has one output found them
-invariants : {bytes : List ℕ} {it : Command} {turned : Outcome} {text : List ℕ} (design : Designed) → AsksForInvariants it design → may_differ it 8 ≡ false → IsOutput bytes it turned text → HasInvariants bytes
-invariants design asks same (of_check _ _ _ _) = absurd asks
-invariants design asks same (of_run _ _ _ _ _ _ _ _) = absurd asks
-invariants design asks same (of_inv doc b lemmas read is are) = record { doc = doc; design = b; lemmas = lemmas; read = read; is = is; are = are }
-invariants design asks same (of_verify _ _ _ _ _ _) = absurd asks
-invariants design asks same (of_prove _ _ _ _ _ _ _ _ _ _) = absurd cc
+invariants : {bytes : List ℕ} {it : Command} {turned : Outcome} {text : List ℕ} (of : Doc) (design : Designed) → AsksForInvariants it of design → may_differ it 8 ≡ false → IsOutput bytes it turned text → HasInvariants bytes
+invariants of design asks same (of_check _ _ _ _) = absurd asks
+invariants of design asks same (of_run _ _ _ _ _ _ _ _) = absurd asks
+invariants of design asks same (of_inv doc b lemmas read is are) = record { doc = doc; design = b; lemmas = lemmas; read = read; is = is; are = are }
+invariants of design asks same (of_verify _ _ _ _ _ _) = absurd asks
+invariants of design asks same (of_prove _ _ _ _ _ _ _ _ _ _) = absurd cc
+invariants of design asks same (of_sim it text none run) = (let some = asks.0 in absurd (omega arith))
+invariants of design asks same (of_watched it doc b tape text some read is taped watched) =
+    record { doc = doc; design = b; lemmas = watched.lemmas; read = read; is = is; are = watched.invariants }
 
 -- what was said of a proof is of the other document, which is the same
 said_of : {bytes : List ℕ} (doc : Doc) → document_in bytes ≡ Ok doc → (has : HasVerdict bytes) → IsVerdictOf doc has.design has.said × IsDesignOf doc has.design
@@ -219,8 +243,8 @@ excludes none exclusive {bytes = bytes} same (of_colour doc c d read refused) is
 excludes none exclusive {bytes = bytes} same (of_loop doc loop read refused) is =
     let has = has_design is in
     loop_excluded none doc has.design loop (design_of bytes has.doc doc has.design has.read read has.is) refused
-excludes none exclusive {bytes = bytes} same (of_tape doc design fault read made failed) is =
-    let has = has_tape is in
+excludes none exclusive {bytes = bytes} same (of_tape doc design fault read made asks failed) is =
+    let has = has_run asks is in
     let taped = subst (λ (x : Doc). tape_in x.net x.tape ≡ Ok has.tape) (one_document bytes has.doc doc has.read read) has.taped in
     cc
 excludes none exclusive same (of_form doc design path read made failed) is =
@@ -232,7 +256,7 @@ excludes none exclusive same (of_form doc design path read made failed) is =
 excludes none exclusive same (of_persistency doc design c read made asks first) is = first.ungranted (granted doc design asks read made is c first.is_channel)
 excludes none exclusive same (of_width doc design read made asks wide) is = let few = narrow doc design asks read made is in absurd (omega (arith, wide, few))
 excludes none exclusive {bytes = bytes} same (of_overflow doc design flow r s column read made asks rows meets) is =
-    let has = invariants design asks same is in
+    let has = invariants doc design asks same is in
     not_both_ends doc has.design design (design_of bytes has.doc doc has.design has.read read has.is) made exclusive has.lemmas flow r s column has.are rows meets
 excludes none exclusive same (of_pivots doc design budget lemmas path pivots read made searched leaves) is = absurd cc
 
@@ -252,7 +276,7 @@ abbrev designed : {bytes : List ℕ} {it : Command} {status : ℕ} {line : List 
 designed (of_document fault failed) = None
 designed (of_colour doc c d read refused) = None
 designed (of_loop doc loop read refused) = None
-designed (of_tape doc design fault read made failed) = Some (record { doc = doc; design = design; read = read; is = made })
+designed (of_tape doc design fault read made asks failed) = Some (record { doc = doc; design = design; read = read; is = made })
 designed (of_form doc design path read made failed) = Some (record { doc = doc; design = design; read = read; is = made })
 designed (of_persistency doc design c read made proof first) = Some (record { doc = doc; design = design; read = read; is = made })
 designed (of_width doc design read made asks wide) = Some (record { doc = doc; design = design; read = read; is = made })
@@ -264,7 +288,7 @@ undesigned : NoLoop → {bytes : List ℕ} {it : Command} {status : ℕ} {line :
 undesigned none (of_document fault failed) e has = (let read = has.read in cc)
 undesigned none {bytes = bytes} (of_colour doc c d read refused) e has = colour_excluded doc has.design c d (design_of bytes has.doc doc has.design has.read read has.is) refused
 undesigned none {bytes = bytes} (of_loop doc loop read refused) e has = loop_excluded none doc has.design loop (design_of bytes has.doc doc has.design has.read read has.is) refused
-undesigned none (of_tape doc design fault read made failed) e has = absurd cc
+undesigned none (of_tape doc design fault read made asks failed) e has = absurd cc
 undesigned none (of_form doc design path read made failed) e has = absurd cc
 undesigned none (of_persistency doc design c read made proof first) e has = absurd cc
 undesigned none (of_width doc design read made asks wide) e has = absurd cc
@@ -328,24 +352,51 @@ rights_granted command.Run doc other a b rights flow = absurd rights
 rights_granted command.Inv doc other a b rights flow = absurd rights
 rights_granted command.Verify doc other a b rights flow = flow.1
 rights_granted (command.Prove budget) doc other a b rights flow = flow
+rights_granted (command.Simulate it) doc other a b rights flow = absurd rights
 
 -- no command but `prove` asks for rights and for invariants
-not_both_asked : (it : Command) (doc : Doc) (a b : Designed) → has_one_output it ≡ true → AsksForRights it doc a → AsksForInvariants it b → ⊥
-not_both_asked command.Check doc a b one rights asks = rights
-not_both_asked command.Run doc a b one rights asks = rights
-not_both_asked command.Inv doc a b one rights asks = rights
-not_both_asked command.Verify doc a b one rights asks = asks
-not_both_asked (command.Prove budget) doc a b one rights asks = absurd cc
+not_both_asked : (it : Command) (doc other : Doc) (a b : Designed) → has_one_refusal it ≡ true → AsksForRights it doc a → AsksForInvariants it other b → ⊥
+not_both_asked command.Check doc other a b one rights asks = rights
+not_both_asked command.Run doc other a b one rights asks = rights
+not_both_asked command.Inv doc other a b one rights asks = rights
+not_both_asked command.Verify doc other a b one rights asks = asks
+not_both_asked (command.Prove budget) doc other a b one rights asks = absurd cc
+not_both_asked (command.Simulate it) doc other a b one rights asks = rights
+
+-- a command that runs the tape asks for no rights
+not_run_with_rights : (it : Command) (doc : Doc) (a : Designed) → AsksForTape it → AsksForRights it doc a → ⊥
+not_run_with_rights command.Run doc a tape rights = rights
+not_run_with_rights (command.Simulate it) doc a tape rights = rights
+not_run_with_rights _ doc a tape rights = tape
+
+-- and asks for flow rows, or for invariants, only where there is a tape
+run_with_flow : (it : Command) (doc : Doc) (a : Designed) → AsksForTape it → AsksForFlow it doc a → HasTape doc
+run_with_flow command.Run doc a tape flow = absurd flow
+run_with_flow (command.Simulate it) doc a tape flow = flow.1
+run_with_flow _ doc a tape flow = absurd tape
+
+run_with_invariants : (it : Command) (doc : Doc) (a : Designed) → AsksForTape it → AsksForInvariants it doc a → HasTape doc
+run_with_invariants command.Run doc a tape asks = absurd asks
+run_with_invariants (command.Simulate it) doc a tape asks = asks.1
+run_with_invariants _ doc a tape asks = absurd tape
+
+-- the tape of a document has a fault, or none
+tape_or_fault : (bytes : List ℕ) (doc other : Doc) (fault : tape.Fault) → document_in bytes ≡ Ok doc → document_in bytes ≡ Ok other → tape_in doc.net doc.tape ≡ Err fault → HasTape other → ⊥
+tape_or_fault bytes doc other fault read read' failed has =
+    let again = subst (λ (x : Doc). tape_in x.net x.tape ≡ Ok has.taped) (one_document bytes other doc read' read) has.tape in
+    cc
 
 -- two refusals of what has a design
-both_designed : OneOverflow → {bytes : List ℕ} {it : Command} {status other : ℕ} {line said : List ℕ} → has_one_output it ≡ true → (p : Refuses bytes it status line) (q : Refuses bytes it other said) (x y : HasDesign bytes) → designed p ≡ Some x → designed q ≡ Some y
+both_designed : OneOverflow → {bytes : List ℕ} {it : Command} {status other : ℕ} {line said : List ℕ} → has_one_refusal it ≡ true → (p : Refuses bytes it status line) (q : Refuses bytes it other said) (x y : HasDesign bytes) → designed p ≡ Some x → designed q ≡ Some y
     → Agree bytes status other line said
-both_designed one {bytes = bytes} determined (of_tape doc design tape read made failed) (of_tape doc' design' tape' read' made' failed') x y e f =
+both_designed one {bytes = bytes} determined (of_tape doc design tape read made asks failed) (of_tape doc' design' tape' read' made' asks' failed') x y e f =
     let again = subst (λ (x : Doc). tape_in x.net x.tape ≡ Err tape') (one_document bytes doc' doc read' read) failed' in
     let same : tape ≡ tape' = cc in
     (refl, inl (ap tape_line same))
-both_designed one determined (of_tape doc design tape read made failed) (of_width doc' design' read' made' asks wide) x y e f = absurd asks
-both_designed one determined (of_width doc design read made asks wide) (of_tape doc' design' tape read' made' failed) x y e f = absurd asks
+both_designed one {bytes = bytes} {it = it} determined (of_tape doc a tape read made runs failed) (of_width doc' b read' made' asks wide) x y e f =
+    absurd (tape_or_fault bytes doc doc' tape read read' failed (run_with_flow it doc' b runs asks))
+both_designed one {bytes = bytes} {it = it} determined (of_width doc a read made asks wide) (of_tape doc' b tape read' made' runs failed) x y e f =
+    absurd (tape_or_fault bytes doc' doc tape read' read failed (run_with_flow it doc a runs asks))
 both_designed one {bytes = bytes} determined (of_form doc a path read made failed) (of_form doc' b path' read' made' failed') x y e f =
     let proofs = both_proofs bytes doc doc' a b read read' made made' in
     let same : path ≡ path' = cc in
@@ -356,14 +407,18 @@ both_designed one {bytes = bytes} determined (of_form doc a path read made faile
     absurd cc
 both_designed one determined (of_form doc a path read made failed) (of_overflow doc' b flow r s column read' made' asks rows meets) x y e f = absurd asks
 both_designed one determined (of_overflow doc a flow r s column read made asks rows meets) (of_form doc' b path read' made' failed) x y e f = absurd asks
-both_designed one determined (of_tape doc a tape read made failed) (of_overflow doc' b flow r s column read' made' asks rows meets) x y e f = absurd asks
-both_designed one determined (of_overflow doc a flow r s column read made asks rows meets) (of_tape doc' b tape read' made' failed) x y e f = absurd asks
-both_designed one determined (of_tape doc a tape read made failed) (of_persistency doc' b c read' made' asks first) x y e f = absurd asks
-both_designed one determined (of_persistency doc a c read made asks first) (of_tape doc' b tape read' made' failed) x y e f = absurd asks
+both_designed one {bytes = bytes} {it = it} determined (of_tape doc a tape read made runs failed) (of_overflow doc' b flow r s column read' made' asks rows meets) x y e f =
+    absurd (tape_or_fault bytes doc doc' tape read read' failed (run_with_invariants it doc' b runs asks))
+both_designed one {bytes = bytes} {it = it} determined (of_overflow doc a flow r s column read made asks rows meets) (of_tape doc' b tape read' made' runs failed) x y e f =
+    absurd (tape_or_fault bytes doc' doc tape read' read failed (run_with_invariants it doc a runs asks))
+both_designed one determined (of_tape doc a tape read made runs failed) (of_form doc' b path read' made' broken) x y e f = absurd runs
+both_designed one determined (of_form doc a path read made broken) (of_tape doc' b tape read' made' runs failed) x y e f = absurd runs
+both_designed one {it = it} determined (of_tape doc a tape read made runs failed) (of_persistency doc' b c read' made' asks first) x y e f = absurd (not_run_with_rights it doc' b runs asks)
+both_designed one {it = it} determined (of_persistency doc a c read made asks first) (of_tape doc' b tape read' made' runs failed) x y e f = absurd (not_run_with_rights it doc a runs asks)
 both_designed one {it = it} determined (of_persistency doc a c read made rights first) (of_overflow doc' b flow r s column read' made' asks rows meets) x y e f =
-    absurd (not_both_asked it doc a b determined rights asks)
+    absurd (not_both_asked it doc doc' a b determined rights asks)
 both_designed one {it = it} determined (of_overflow doc a flow r s column read made asks rows meets) (of_persistency doc' b c read' made' rights first) x y e f =
-    absurd (not_both_asked it doc' b a determined rights asks)
+    absurd (not_both_asked it doc' doc b a determined rights asks)
 both_designed one {bytes = bytes} determined (of_form doc a path read made failed) (of_width doc' b read' made' asks wide) x y e f =
     let proofs = both_proofs bytes doc doc' a b read read' made made' in
     let found = asks.0.proof in
@@ -394,7 +449,7 @@ both_designed one {bytes = bytes} determined (of_overflow doc a flow r s column 
     (refl, inl (ap overflow_line (same_overflow doc a b made (design_of bytes doc' doc b read' read made') one flow flow' r s t u column other rows rows' meets meets')))
 both_designed one determined _ _ x y e f = absurd cc
 
-pub refusals : NoLoop → OneOverflow → {bytes : List ℕ} {it : Command} {status other : ℕ} {line said : List ℕ} → has_one_output it ≡ true → Refuses bytes it status line → Refuses bytes it other said → Agree bytes status other line said
+pub refusals : NoLoop → OneOverflow → {bytes : List ℕ} {it : Command} {status other : ℕ} {line said : List ℕ} → has_one_refusal it ≡ true → Refuses bytes it status line → Refuses bytes it other said → Agree bytes status other line said
 refusals none one {bytes = bytes} {it = it} {status = status} {other = other} {line = line} {said = said} determined p q = by_design (designed p) refl (designed q) refl
   where
     by_design : (x : Option (HasDesign bytes)) → designed p ≡ x → (y : Option (HasDesign bytes)) → designed q ≡ y → Agree bytes status other line said

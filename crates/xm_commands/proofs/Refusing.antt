@@ -21,12 +21,12 @@ use Rattle.xm_tape.specs.Reading.{tape_in}
 use Rattle.xm_tape.specs.declared.fault.TapeFault.{TapeFault}
 use Rattle.xm_tape.specs.declared.fault.TapeFault.TheVariants as tape_faults
 use Rattle.xm_commands.specs.Output.{IsDesignOf}
-use Rattle.xm_commands.specs.Refusal.{Refuses, of_colour, of_document, of_loop, of_tape}
+use Rattle.xm_commands.specs.Refusal.{AsksForTape, Refuses, of_colour, of_document, of_loop, of_tape}
 use Rattle.xm_commands.specs.Inner.Invariants.{IsFlowFault}
-use Rattle.xm_commands.specs.Inner.WhyEnded.{Change, IsCause, IsUnharmed, IsUntouched}
+use Rattle.xm_commands.specs.Change.{Change}
+use Rattle.xm_commands.specs.Inner.WhyEnded.{IsCause, IsUnharmed, IsUntouched}
 use Rattle.xm_commands.specs.Inner.Prepared.{IsNetFault, IsRefusedAs, is_of_wiring, is_want, is_want_of_tape, net_fault_line}
 use Rattle.xm_commands.specs.declared.command.Command.{Command}
-use Rattle.xm_commands.specs.declared.command.Command.TheVariants as commands
 use Rattle.xm_commands.specs.declared.refusal.Refusal.{Refusal}
 use Rattle.xm_commands.specs.declared.refusal.Refusal.TheVariants as refusal
 
@@ -82,12 +82,14 @@ flow_fault r design flow_faults.OutOfMemory is wide = tt
 abbrev pub TapeLines : TapeFault → List ℕ → Type 0
 TapeLines fault line = (it : tape.Fault) → reading.fault_of fault ≡ Some it → line ≡ tape_line it
 
-pub tape_refused : (bytes line : List ℕ) (doc : Doc) (it : Designed) (fault : TapeFault) → document_in bytes ≡ Ok doc → IsDesignOf doc it → reading.Fails fault (tape_in doc.net doc.tape) → TapeLines fault line → is_want_of_tape fault ≡ false → Refuses bytes commands.Run 5 line
-tape_refused bytes line doc it (tape_faults.TapeShape path) read design fails lines some = subst (Refuses bytes commands.Run 5) (sym (lines _ refl)) (of_tape doc it _ read design fails)
-tape_refused bytes line doc it (tape_faults.TapeLimit count) read design fails lines some = subst (Refuses bytes commands.Run 5) (sym (lines _ refl)) (of_tape doc it _ read design fails)
-tape_refused bytes line doc it (tape_faults.RowLength row count) read design fails lines some = subst (Refuses bytes commands.Run 5) (sym (lines _ refl)) (of_tape doc it _ read design fails)
-tape_refused bytes line doc it (tape_faults.BadMark row oracle) read design fails lines some = subst (Refuses bytes commands.Run 5) (sym (lines _ refl)) (of_tape doc it _ read design fails)
-tape_refused bytes line doc it tape_faults.OutOfMemory read design fails lines some = absurd cc
+module _ (bytes line : List ℕ) (command : Command) (doc : Doc) (it : Designed) where
+  pub tape_refused : (fault : TapeFault) → document_in bytes ≡ Ok doc → IsDesignOf doc it → AsksForTape command → reading.Fails fault (tape_in doc.net doc.tape) → TapeLines fault line → is_want_of_tape fault ≡ false
+      → Refuses bytes command 5 line
+  tape_refused (tape_faults.TapeShape path) read design asks fails lines some = subst (Refuses bytes command 5) (sym (lines _ refl)) (of_tape doc it _ read design asks fails)
+  tape_refused (tape_faults.TapeLimit count) read design asks fails lines some = subst (Refuses bytes command 5) (sym (lines _ refl)) (of_tape doc it _ read design asks fails)
+  tape_refused (tape_faults.RowLength row count) read design asks fails lines some = subst (Refuses bytes command 5) (sym (lines _ refl)) (of_tape doc it _ read design asks fails)
+  tape_refused (tape_faults.BadMark row oracle) read design asks fails lines some = subst (Refuses bytes command 5) (sym (lines _ refl)) (of_tape doc it _ read design asks fails)
+  tape_refused tape_faults.OutOfMemory read design asks fails lines some = absurd cc
 
 -- what the refusal of a document says of the sink, which it leaves
 pub refused_cause : {K : Type 0} (bytes : List ℕ) (it : Command) (sink : Change K) (r : Refusal) → IsRefusedAs bytes it r → IsUntouched sink → IsUnharmed sink → IsCause bytes it sink r

@@ -5,16 +5,19 @@ use Rattle.std.proofs.Common.{◌⊎◌, inl, inr}
 use Rattle.std.specs.Prelude.{IsSomeAnd, ◌==◌}
 use Rattle.std.proofs.lemmas.Bool.{cases_Bool}
 use Rattle.xm_commands.proofs.OneAnswer.{excludes}
-use Rattle.xm_commands.specs.Output.{IsOutput}
+use Rattle.xm_commands.specs.Output.{IsOutput, of_sim, of_watched}
 use Rattle.xm_commands.specs.Status.{Gave, IsExpected, IsRefused, IsTold, Prints, PrintsFront, Tells, is_done, is_of_input, is_status, line_of, most_bytes}
 use Rattle.xm_commands.specs.Status.{outcome_status, status_of}
 use Rattle.xm_commands.specs.Status as plain
-use Rattle.xm_commands.specs.Inner.WhyEnded.{Change, HasAnswered, HasEnded, IsInputRefused, IsUnharmed, IsUntouched, IsWhy, IsWhyCalled}
-use Rattle.xm_commands.specs.OneAnswer.{OneOutput, has_one_output, may_differ}
+use Rattle.xm_commands.specs.Change.{Change}
+use Rattle.xm_commands.specs.Inner.CallEnded.{HasRead}
+use Rattle.xm_commands.specs.Inner.WhyEnded.{HasAnswered, HasEnded, IsInputRefused, IsUnharmed, IsUntouched, IsWhy, IsWhyCalled}
+use Rattle.xm_commands.specs.OneAnswer.{OneOutput, has_one_refusal, may_differ}
 use Rattle.xm_commands.specs.declared.command.Command.{Command}
 use Rattle.xm_commands.specs.declared.command.Command.TheVariants as command
 use Rattle.xm_commands.specs.declared.command.Outcome.{Outcome}
 use Rattle.xm_commands.specs.declared.command.Outcome.TheVariants as outcome
+use Rattle.xm_commands.specs.declared.command.Simulation.{Simulation}
 use Rattle.xm_commands.specs.declared.refusal.Refusal.{Refusal}
 use Rattle.xm_commands.specs.declared.refusal.Refusal.TheVariants as refusal
 use Rattle.xm_elim.specs.Elimination.{ExclusiveEnds}
@@ -48,6 +51,13 @@ read_whole it source sink bytes (Err refusal.Memory) gave unharmed answered = (
   ],
 )
 read_whole it source sink bytes (Err refusal.TooLong) gave unharmed answered = absurd answered
+
+-- the bytes were not read
+pub not_read : {S K : Type 0} (it : Command) (source : Change S) (sink : Change K) (r : Refusal) → HasRead source (Err r) → IsUntouched sink → IsUnharmed sink → HasEnded (Some it) source sink (Err r)
+not_read it source sink refusal.Read why same unharmed = (why.0, why.1, same)
+not_read it source sink refusal.Memory why same unharmed = (why, unharmed, inl same)
+not_read it source sink refusal.TooLong why same unharmed = (why.0, why.1, same)
+not_read it source sink _ why same unharmed = absurd why
 
 -- ---- from the source to the words
 
@@ -203,6 +213,7 @@ differs_not command.Run status other = refl
 differs_not command.Inv status other = refl
 differs_not command.Verify status other = refl
 differs_not (command.Prove budget) status other = other
+differs_not (command.Simulate it) status other = refl
 
 -- want of memory, or a search that leaves 128 bits
 abbrev pub EndsOtherwise : Command → ℕ → Type 0
@@ -219,6 +230,8 @@ expected_otherwise command.Inv turned status (inl want) = inr want
 expected_otherwise command.Inv turned status (inr leaves) = absurd (let no = leaves.0 in cc)
 expected_otherwise command.Verify turned status (inl want) = inr want
 expected_otherwise command.Verify turned status (inr leaves) = absurd (let no = leaves.0 in cc)
+expected_otherwise (command.Simulate it) turned status (inl want) = inr want
+expected_otherwise (command.Simulate it) turned status (inr leaves) = absurd (let no = leaves.0 in cc)
 
 module _ {S K : Type 0} (it : Command) (source : Change S) (sink : Change K) (none : NoLoop) (exclusive : ExclusiveEnds) (bytes text : List ℕ) (turned : Outcome)
     (is : source.bytes_before ≡ Some bytes) (output : IsOutput bytes it turned text) where
@@ -242,6 +255,20 @@ module _ {S K : Type 0} (it : Command) (source : Change S) (sink : Change K) (no
 
 -- ---- what an output says of each clause
 
+-- a simulation turns out in one way
+simulated_turn : {bytes text : List ℕ} {it : Simulation} {turned : Outcome} → IsOutput bytes (command.Simulate it) turned text → turned ≡ outcome.Yes
+simulated_turn (of_sim it text none is) = refl
+simulated_turn (of_watched it doc design tape text some read is taped watched) = refl
+
+-- and so does every command but `prove`
+one_turn : OneOutput → (it : Command) → has_one_refusal it ≡ true → {bytes text other : List ℕ} {said turned : Outcome} → IsOutput bytes it said text → IsOutput bytes it turned other → said ≡ turned
+one_turn one command.Check determined p q = (one _ command.Check _ _ _ _ refl p q).0
+one_turn one command.Run determined p q = (one _ command.Run _ _ _ _ refl p q).0
+one_turn one command.Inv determined p q = (one _ command.Inv _ _ _ _ refl p q).0
+one_turn one command.Verify determined p q = (one _ command.Verify _ _ _ _ refl p q).0
+one_turn one (command.Prove budget) determined p q = absurd cc
+one_turn one (command.Simulate it) determined p q = simulated_turn p ∙ sym (simulated_turn q)
+
 same_outcome : (a b : Outcome) → outcome_status a ≡ outcome_status b → a ≡ b
 same_outcome outcome.Yes outcome.Yes same = refl
 same_outcome outcome.No outcome.No same = refl
@@ -254,29 +281,30 @@ module _ {S K : Type 0} (source : Change S) (sink : Change K) (called : Option C
       subst (λ (o : Outcome). Prints it o source.bytes_before source.bytes_after sink.bytes_before sink.bytes_after) (same_outcome said turned status)
       (called_is (λ (it : Command). Prints it said source.bytes_before source.bytes_after sink.bytes_before sink.bytes_after) called it is same)
 
-  pub done_complete : OneOutput → (bytes text : List ℕ) → has_one_output it ≡ true → IsSomeAnd called (λ (it : Command). Prints it said source.bytes_before source.bytes_after sink.bytes_before sink.bytes_after) → called ≡ Some it
+  pub done_complete : OneOutput → (bytes text : List ℕ) → has_one_refusal it ≡ true → IsSomeAnd called (λ (it : Command). Prints it said source.bytes_before source.bytes_after sink.bytes_before sink.bytes_after) → called ≡ Some it
       → source.bytes_before ≡ Some bytes → IsOutput bytes it turned text → outcome_status said ≡ outcome_status turned
   done_complete one bytes text determined is same read output =
       let prints = called_is (λ (it : Command). Prints it said source.bytes_before source.bytes_after sink.bytes_before sink.bytes_after) called it is same in
       let bytes_same = same_bytes source.bytes_before source.bytes_after bytes prints.bytes read prints.gave.whole in
-      ap outcome_status (one bytes it said turned prints.printed.0 text determined (subst (λ (x : List ℕ). IsOutput x it said prints.printed.0) bytes_same prints.printed.1) output).0
+      ap outcome_status (one_turn one it determined (subst (λ (x : List ℕ). IsOutput x it said prints.printed.0) bytes_same prints.printed.1) output)
 
 -- no refusal has the status of an output
 pub refused_not_done : (r : Refusal) → is_done (status_of r) ≡ false
 refused_not_done refusal.Words = refl
 refused_not_done _ = refl
 
-done_outcome : (o : Outcome) → is_done (outcome_status o) ≡ true
+pub done_outcome : (o : Outcome) → is_done (outcome_status o) ≡ true
 done_outcome outcome.Yes = refl
 done_outcome outcome.No = refl
 
 -- the output of a command that has one is as expected, and so is any of a search
-pub expected_done : (it : Command) (turned said : Outcome) → (has_one_output it ≡ true → outcome_status said ≡ outcome_status turned) → IsExpected it turned (outcome_status said)
+pub expected_done : (it : Command) (turned said : Outcome) → (has_one_refusal it ≡ true → outcome_status said ≡ outcome_status turned) → IsExpected it turned (outcome_status said)
 expected_done (command.Prove budget) turned said same = inl (done_outcome said)
 expected_done command.Check turned said same = inl (same refl)
 expected_done command.Run turned said same = inl (same refl)
 expected_done command.Inv turned said same = inl (same refl)
 expected_done command.Verify turned said same = inl (same refl)
+expected_done (command.Simulate it) turned said same = inl (same refl)
 
 pub why_not_done : (r : Refusal) (o : Outcome) → status_of r ≡ outcome_status o → ⊥
 why_not_done r o same = let no = refused_not_done r in let yes = ap is_done same ∙ done_outcome o in cc

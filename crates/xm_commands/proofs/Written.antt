@@ -3,7 +3,8 @@ use Rattle.std.proofs.Common.{◌≡◌, ℕ, List, Result, Ok, Err, sym, subst}
 use Rattle.std.specs.Prelude.{IfErr, IfOk, OnErr, OnOk}
 use Rattle.std.specs.Io.KnownBytes.{Appends}
 use Rattle.xm_commands.specs.Output.{IsOutput}
-use Rattle.xm_commands.specs.Inner.WhyEnded.{Change, HasAnswered, IsCause}
+use Rattle.xm_commands.specs.Change.{Change}
+use Rattle.xm_commands.specs.Inner.WhyEnded.{HasAnswered, IsCause}
 use Rattle.xm_commands.specs.declared.command.Command.{Command}
 use Rattle.xm_commands.specs.declared.command.Outcome.{Outcome}
 use Rattle.xm_commands.specs.declared.refusal.Refusal.{Refusal}

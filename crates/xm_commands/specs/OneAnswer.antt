@@ -12,8 +12,14 @@ use Rattle.xm_order.specs.declared.signal.Signal.{Signal}
 use Rattle.xm_report.specs.Lines.{loop_line}
 
 -- a command but `prove`, which may search in many ways
+abbrev pub has_one_refusal : Command → Bool
+has_one_refusal (command.Prove budget) = false
+has_one_refusal _ = true
+
+-- and but `sim` with snapshots, which may be taken at many cycles
 abbrev pub has_one_output : Command → Bool
 has_one_output (command.Prove budget) = false
+has_one_output (command.Simulate it) = it.watch == 0
 has_one_output _ = true
 
 -- a search may leave 128 bits where another one would not
@@ -21,7 +27,7 @@ abbrev pub may_differ : Command → ℕ → Bool
 may_differ (command.Prove budget) status = status == 8
 may_differ _ status = false
 
--- A command but `prove` has at most one output for given bytes, and it turns out in one way.
+-- A command but `prove`, and `sim` with snapshots, has at most one output for given bytes, and it turns out in one way.
 abbrev pub OneOutput : Type 0
 OneOutput = (bytes : List ℕ) (it : Command) (turned other_turned : Outcome) (text other_text : List ℕ)
     → has_one_output it ≡ true → IsOutput bytes it turned text → IsOutput bytes it other_turned other_text
@@ -44,5 +50,5 @@ pub record NamesLoop (bytes line : List ℕ) : Type 0 where
 -- either may name any.
 abbrev pub OneRefusal : Type 0
 OneRefusal = (bytes : List ℕ) (it : Command) (status other_status : ℕ) (line other_line : List ℕ)
-    → has_one_output it ≡ true → Refuses bytes it status line → Refuses bytes it other_status other_line
+    → has_one_refusal it ≡ true → Refuses bytes it status line → Refuses bytes it other_status other_line
     → (status ≡ other_status) × ((line ≡ other_line) ⊎ (NamesLoop bytes line × NamesLoop bytes other_line))

@@ -1,7 +1,8 @@
 -- What a command prints for the bytes of a document.
 use Rattle.serde_json.specs.Data.{Data}
 use Rattle.serde_json.specs.Written.{compact_text}
-use Rattle.std.specs.Prelude.{◌≡◌, ◌≤◌, ◌++◌, ◌∷◌, [], ℕ, List, Result, Ok, Some, ℤ}
+use Rattle.std.specs.List.{flat_map}
+use Rattle.std.specs.Prelude.{◌≡◌, ◌≤◌, ◌<◌, ◌==◌, if◌then◌else◌, ◌++◌, ◌∷◌, [], ℕ, List, length, slice_get, Result, Ok, Some, ℤ}
 use Rattle.xm_check.specs.Break.{IsVerdict}
 use Rattle.xm_colours.specs.Allowing.{AllowsAll}
 use Rattle.xm_colours.specs.Family.{colours_at}
@@ -9,12 +10,16 @@ use Rattle.xm_commands.specs.declared.command.Command.{Command}
 use Rattle.xm_commands.specs.declared.command.Command.TheVariants as command
 use Rattle.xm_commands.specs.declared.command.Outcome.{Outcome}
 use Rattle.xm_commands.specs.declared.command.Outcome.TheVariants as outcome
+use Rattle.xm_commands.specs.declared.command.Simulation.{Simulation}
 use Rattle.xm_design.specs.Designed.{Designed, IsDesigned}
 use Rattle.xm_elim.specs.Basis.{IsReducedBasis}
 use Rattle.xm_elim.specs.Elimination.{EndsWith}
 use Rattle.xm_flow.specs.FlowRows.{Flow, IsKept}
 use Rattle.xm_flow.specs.Holding.{IsFlowOf, most_pairs, pair_count, queue_pair_count}
 use Rattle.xm_flow.specs.ValidLemma.{Lemma}
+use Rattle.xm_model.specs.Component.{Content}
+use Rattle.xm_model.specs.Naming.{Naming}
+use Rattle.xm_model.specs.Signals.{Signals}
 use Rattle.xm_netlist.specs.Doc.{Doc}
 use Rattle.xm_json.specs.Path.{Path}
 use Rattle.xm_netlist.specs.Reading.{document_in}
@@ -27,14 +32,17 @@ use Rattle.xm_proof.specs.declared.verdict.Verdict.TheVariants as verdict
 use Rattle.xm_proof_reader.specs.Known.{known_by}
 use Rattle.xm_proof_reader.specs.Reading.{proof_in}
 use Rattle.xm_report.specs.Check.{check_text}
-use Rattle.xm_report.specs.Invariants.{invariant_text}
+use Rattle.xm_report.specs.Invariants.{invariant_lines, invariant_text}
 use Rattle.xm_proof_writer.specs.Writing.{proof_data}
 use Rattle.xm_report.specs.Search.{open_text, spent_text}
+use Rattle.xm_report.specs.Snap.{snap_line}
 use Rattle.xm_report.specs.Verdict.{verdict_text}
 use Rattle.xm_search.specs.Searched.{IsOpen, IsSpent}
 use Rattle.xm_tape.specs.Reading.{tape_in}
-use Rattle.xm_tape.specs.Taped.{Taped}
-use Rattle.xm_trace.specs.Text.{IsTextOfRun}
+use Rattle.xm_tape.specs.Taped.{Taped, cycles_of}
+use Rattle.xm_trace.specs.Runs.{IsRunOf}
+use Rattle.xm_trace.specs.Text.{IsTextOfRun, run_text}
+use Rattle.xm_work.specs.Counts.{least_cycle}
 use Rattle.xm_writer.specs.Writing.{text_of}
 
 -- a design of the document's net, whose list of allowed colours refuses nothing
@@ -112,9 +120,34 @@ pub data Finds (budget : ℕ) (doc : Doc) (design : Designed) (lemmas : List Lem
       → Finds budget doc design lemmas outcome.No
       (spent_text doc.names nodes pivots last.lit (compact_text (data_of_proof doc design p)))
 
+-- the lines of the snapshots of a run at these cycles
+abbrev pub snap_lines : Naming → Designed → (ℕ → ℕ → Content) → List ℕ → List ℕ
+snap_lines names design s cycles = flat_map (λ t. snap_line names design t (s t)) cycles
+
+-- the cycles of so many snapshots of a run of n cycles, none where it has none: the i-th is not before its least one, and
+-- they never fall. So they are spread over the run, and the last is its last.
+pub record AreSnapCycles (watch n : ℕ) (cycles : List ℕ) : Type 0 where
+  pub many : length cycles ≡ (if n == 0 then 0 else watch)
+  pub due : (i t : ℕ) → slice_get cycles i ≡ Some t → least_cycle watch n i ≤ t
+  pub within : (i t : ℕ) → slice_get cycles i ≡ Some t → t < n
+  pub rise : (i j t u : ℕ) → i < j → slice_get cycles i ≡ Some t → slice_get cycles j ≡ Some u → t ≤ u
+
+-- the text of the run of a tape, and behind it the lines of its invariants and of so many snapshots
+pub record IsWatchedText (doc : Doc) (design : Designed) (tape : Taped) (watch : ℕ) (text : List ℕ) : Type 0 where
+  pub states : ℕ → ℕ → Content
+  pub frames : ℕ → Signals
+  pub run : IsRunOf doc.net tape states frames
+  pub lemmas : List Lemma
+  pub invariants : AreInvariants design lemmas
+  pub cycles : List ℕ
+  pub are_cycles : AreSnapCycles watch (cycles_of tape) cycles
+  pub same : text ≡ run_text doc.names frames (cycles_of tape) ++ invariant_lines doc.names design lemmas
+      ++ snap_lines doc.names design states cycles
+
 -- The output of a command for the bytes of a document, and how it turned out: of `check` the sizes and colours of its
 -- design, of `run` the text of the run of its tape, of `inv` that of its invariants, of `verify` the verdict on its
--- proof, which may be no, and of `prove` what a search finds, which may be no proof.
+-- proof, which may be no, of `prove` what a search finds, which may be no proof, and of `sim` that of `run`, whatever the
+-- parts and the workers, with invariants and snapshots where these are wanted.
 pub data IsOutput (bytes : List ℕ) : Command → Outcome → List ℕ → Type 0 where
   of_check : (doc : Doc) (design : Designed) → document_in bytes ≡ Ok doc → IsDesignOf doc design
       → IsOutput bytes command.Check outcome.Yes (check_text doc.names design)
@@ -129,3 +162,8 @@ pub data IsOutput (bytes : List ℕ) : Command → Outcome → List ℕ → Type
   of_prove : (doc : Doc) (design : Designed) (budget : ℕ) (lemmas : List Lemma) (turned : Outcome) (text : List ℕ)
       → document_in bytes ≡ Ok doc → IsDesignOf doc design → IsSearched design lemmas
       → Finds budget doc design lemmas turned text → IsOutput bytes (command.Prove budget) turned text
+  of_sim : (it : Simulation) (text : List ℕ) → it.watch ≡ 0 → IsOutput bytes command.Run outcome.Yes text
+      → IsOutput bytes (command.Simulate it) outcome.Yes text
+  of_watched : (it : Simulation) (doc : Doc) (design : Designed) (tape : Taped) (text : List ℕ) → 0 < it.watch
+      → document_in bytes ≡ Ok doc → IsDesignOf doc design → tape_in doc.net doc.tape ≡ Ok tape
+      → IsWatchedText doc design tape it.watch text → IsOutput bytes (command.Simulate it) outcome.Yes text

@@ -22,6 +22,7 @@ use Rattle.xm_search.specs.Searched.{IsOverflow}
 use Rattle.xm_shape.specs.Fault.{Fault, wiring}
 use Rattle.xm_tape.specs.Fault as tape
 use Rattle.xm_tape.specs.Reading.{tape_in}
+use Rattle.xm_tape.specs.Taped.{Taped}
 
 -- a fault of wiring is one of the net (4), and any other one of the document (3)
 abbrev pub document_status : Fault → ℕ
@@ -40,25 +41,38 @@ AsksForRights command.Verify doc design = HasProof doc design
 AsksForRights (command.Prove budget) doc design = Unit {0}
 AsksForRights _ doc design = ⊥
 
--- the command asks for the flow rows of the design: `inv` of each, and `verify` and `prove` where each channel is
--- granted a persistent initiator
+-- the command runs the tape of the document
+abbrev pub AsksForTape : Command → Type 0
+AsksForTape command.Run = Unit {0}
+AsksForTape (command.Simulate it) = Unit {0}
+AsksForTape _ = ⊥
+
+-- the document has a tape
+pub record HasTape (doc : Doc) : Type 0 where
+  pub taped : Taped
+  pub tape : tape_in doc.net doc.tape ≡ Ok taped
+
+-- the command asks for the flow rows of the design: `inv` of each, `verify` and `prove` where each channel is granted a
+-- persistent initiator, and `sim` with snapshots where the document has a tape
 abbrev pub AsksForFlow : Command → Doc → Designed → Type 0
 AsksForFlow command.Inv doc design = Unit {0}
 AsksForFlow command.Verify doc design = HasProof doc design × AllGranted design.net
 AsksForFlow (command.Prove budget) doc design = AllGranted design.net
+AsksForFlow (command.Simulate it) doc design = (0 < it.watch) × HasTape doc
 AsksForFlow _ doc design = ⊥
 
 -- and for what these rows say of packets alone
-abbrev pub AsksForInvariants : Command → Designed → Type 0
-AsksForInvariants command.Inv design = Unit {0}
-AsksForInvariants (command.Prove budget) design = AllGranted design.net
-AsksForInvariants _ design = ⊥
+abbrev pub AsksForInvariants : Command → Doc → Designed → Type 0
+AsksForInvariants command.Inv doc design = Unit {0}
+AsksForInvariants (command.Prove budget) doc design = AllGranted design.net
+AsksForInvariants (command.Simulate it) doc design = (0 < it.watch) × HasTape doc
+AsksForInvariants _ doc design = ⊥
 
 -- Why a command refuses the bytes, with the status and the line of error: the first fault of the document, the first
--- colour that is not allowed, a loop of the dependence, for `run` the first fault of the tape, for `verify` the first
--- break of the proof's form, for `verify` and `prove` the first channel that is granted no persistent initiator, for
--- these and `inv` too many pairs, for `inv` and `prove` an elimination that leaves 128 bits, and for `prove` a path on
--- which the search's tableau leaves them, in this order.
+-- colour that is not allowed, a loop of the dependence, for `run` and `sim` the first fault of the tape, for `verify` the
+-- first break of the proof's form, for `verify` and `prove` the first channel that is granted no persistent initiator,
+-- for these, `inv`, and `sim` with snapshots too many pairs, for all of them but `verify` an elimination that leaves 128
+-- bits, and for `prove` a path on which the search's tableau leaves them, in this order.
 pub data Refuses (bytes : List ℕ) : Command → ℕ → List ℕ → Type 0 where
   of_document : {it : Command} (fault : Fault) → document_in bytes ≡ Err fault
       → Refuses bytes it (document_status fault) (document_line fault)
@@ -66,8 +80,9 @@ pub data Refuses (bytes : List ℕ) : Command → ℕ → List ℕ → Type 0 wh
       → IsColourRefused doc.net doc.allow c d → Refuses bytes it 4 (colour_line doc.names c d)
   of_loop : {it : Command} (doc : Doc) (loop : List Signal) → document_in bytes ≡ Ok doc
       → IsLoopRefused doc.net doc.allow loop → Refuses bytes it 4 (loop_line doc.names loop)
-  of_tape : (doc : Doc) (design : Designed) (fault : tape.Fault) → document_in bytes ≡ Ok doc
-      → IsDesignOf doc design → tape_in doc.net doc.tape ≡ Err fault → Refuses bytes command.Run 5 (tape_line fault)
+  of_tape : {it : Command} (doc : Doc) (design : Designed) (fault : tape.Fault) → document_in bytes ≡ Ok doc
+      → IsDesignOf doc design → AsksForTape it → tape_in doc.net doc.tape ≡ Err fault
+      → Refuses bytes it 5 (tape_line fault)
   of_form : (doc : Doc) (design : Designed) (path : Path) → document_in bytes ≡ Ok doc → IsDesignOf doc design
       → proof_of doc design ≡ Err path → Refuses bytes command.Verify 5 (form_line path)
   of_persistency : {it : Command} (doc : Doc) (design : Designed) (c : ℕ) → document_in bytes ≡ Ok doc
@@ -77,7 +92,7 @@ pub data Refuses (bytes : List ℕ) : Command → ℕ → List ℕ → Type 0 wh
       → AsksForFlow it doc design → most_pairs < pair_count design
       → Refuses bytes it 4 (width_line (pair_count design))
   of_overflow : {it : Command} (doc : Doc) (design : Designed) (flow : Flow) (r s : SparseRow) (column : ℕ)
-      → document_in bytes ≡ Ok doc → IsDesignOf doc design → AsksForInvariants it design → HasFlow design flow
+      → document_in bytes ≡ Ok doc → IsDesignOf doc design → AsksForInvariants it doc design → HasFlow design flow
       → ElimOverflows (pair_count design) (queue_pair_count design) flow.rows r s column
       → Refuses bytes it 8 (overflow_line column)
   of_pivots : (doc : Doc) (design : Designed) (budget : ℕ) (lemmas : List Lemma) (path : List Lit) (pivots : ℕ)

@@ -1,13 +1,15 @@
 -- The words that the program knows.
-use Rattle.std.specs.Prelude.{ℕ, List, [], ◌∷◌, if◌then◌else◌, Option, Some, None, false, codes, option_and_then, option_map}
+use Rattle.std.specs.Prelude.{ℕ, List, [], ◌∷◌, if◌then◌else◌, Bool, true, false, Option, Some, None, codes, option_and_then, option_map}
+use Rattle.std.specs.Prelude.{unwrap_or}
 use Rattle.std.specs.Str.{bytes_eq}
 use Rattle.xm_commands.specs.declared.command.Command.{Command}
 use Rattle.xm_commands.specs.declared.command.Command.TheVariants as command
+use Rattle.xm_commands.specs.declared.command.Simulation.{Simulation}
 use Rattle.xm_io.specs.declared.words.Words.{Words}
 use Rattle.xm_model.specs.Naming.{texts_of}
 use Rattle.xm_options.specs.Grammar.{options_in}
 use Rattle.xm_options.specs.declared.option.LongOption.{LongOption}
-use Rattle.xm_options.specs.declared.option.OptionName.TheVariants.{Budget}
+use Rattle.xm_options.specs.declared.option.OptionName.TheVariants.{Budget, Parts, Watch, Workers}
 
 abbrev pub command_named : List ℕ → Option Command
 command_named word =
@@ -29,13 +31,39 @@ budget_of _ = 200000
 abbrev pub prove_in : List (List ℕ) → Option Command
 prove_in rest = option_map (λ values. command.Prove (budget_of values)) (options_in (budget_option ∷ []) rest)
 
--- the first word is a command, and those behind it are its options, of which no command but `prove` has any
+-- the options of `sim`: in how many parts and by how many workers, both wanted, and how many snapshots
+abbrev pub simulation_options : List LongOption
+simulation_options =
+    record { name = Parts; low = 1; high = 64; wanted = true }
+    ∷ record { name = Workers; low = 1; high = 64; wanted = true }
+    ∷ record { name = Watch; low = 0; high = 10000; wanted = false } ∷ []
+
+-- the simulation by the values of those options; it tells no snapshots where the words give no number
+abbrev pub simulation_of : List (Option ℕ) → Option Simulation
+simulation_of (Some parts ∷ Some workers ∷ watch ∷ []) =
+    Some (record { parts = parts; workers = workers; watch = unwrap_or watch 0 })
+simulation_of _ = None
+
+-- the simulation that the words behind `sim` ask for
+abbrev pub simulation_in : List (List ℕ) → Option Simulation
+simulation_in rest = option_and_then simulation_of (options_in simulation_options rest)
+
+-- the first word is a command, and those behind it are its options, of which only `prove` and `sim` have any
 abbrev pub command_in : List (List ℕ) → Option Command
 command_in [] = None
 command_in (word ∷ rest) =
     if bytes_eq word (codes "prove") then prove_in rest
-    else option_and_then (λ values. command_named word) (options_in [] rest)
+    else (if bytes_eq word (codes "sim") then option_map command.Simulate (simulation_in rest)
+    else option_and_then (λ values. command_named word) (options_in [] rest))
 
 -- the command that the program's words call
 abbrev pub command_of : Words → Option Command
 command_of words = command_in (texts_of words.words.items)
+
+-- the first word is `sim`
+abbrev pub starts_with_sim : List (List ℕ) → Bool
+starts_with_sim [] = false
+starts_with_sim (word ∷ rest) = bytes_eq word (codes "sim")
+
+abbrev pub is_sim : Words → Bool
+is_sim words = starts_with_sim (texts_of words.words.items)

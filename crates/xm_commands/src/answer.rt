@@ -8,9 +8,11 @@ ghost use Rattle.xm_netlist.specs.Reading.{document_in};
 ghost use Rattle.xm_tape.specs.Gives as tape;
 ghost use Rattle.xm_tape.specs.Reading.{tape_in};
 ghost use Rattle.xm_commands.specs.Output.{IsDesignOf};
-ghost use Rattle.xm_commands.specs.Inner.Budget.{HasBudget};
+ghost use Rattle.xm_commands.specs.Inner.Plain.{IsPlain};
 ghost use Rattle.xm_commands.specs.Inner.Prepared.{IsPrepared, IsRefusedAs, is_want_of_tape};
-ghost use Rattle.xm_commands.specs.Inner.WhyEnded.{HasAnswered, change};
+ghost use Rattle.xm_commands.specs.Change.{change};
+ghost use Rattle.xm_commands.specs.Inner.WhyEnded.{HasAnswered};
+ghost use Rattle.xm_commands.specs.Refusal.{AsksForTape};
 ghost use Rattle.xm_commands.specs.declared.command.Command.TheVariants as command;
 
 use crate::command::{Command, Outcome};
@@ -35,9 +37,10 @@ fn is_memory(fault: &TapeFault) -> bool
 }
 
 /// The refusal of a tape.
-fn tape_refusal(alloc: Global, fault: &TapeFault) -> Refusal
-    ensures { (bytes : Items ℕ) (doc : Doc) (design : Designed) → document_in bytes ≡ Ok doc → IsDesignOf doc design
-        → tape.Fails fault.now (tape_in doc.net doc.tape) → IsRefusedAs bytes command.Run result }
+pub fn tape_refusal(alloc: Global, fault: &TapeFault) -> Refusal
+    ensures { (bytes : Items ℕ) (it : Command) (doc : Doc) (design : Designed) → document_in bytes ≡ Ok doc
+        → IsDesignOf doc design → AsksForTape it → tape.Fails fault.now (tape_in doc.net doc.tape)
+        → IsRefusedAs bytes it result }
 {
     if is_memory(fault) {
         return Refusal::Memory;
@@ -62,7 +65,7 @@ fn answer_run<K: Sink>(alloc: Global, prepared: &Prepared, out: &mut K) -> Ended
     }
 }
 
-/// Writes the command's output for a document that was prepared.
+/// Writes the output of a command, other than `sim`, for a document that was prepared.
 fn answer_prepared<K: Sink>(
     alloc: Global,
     command: Command,
@@ -72,7 +75,7 @@ fn answer_prepared<K: Sink>(
 ) -> Ended
     requires prepared { IsPrepared bytes.now prepared.now }
     requires named { IsNamed prepared.now.design.net (naming_of prepared.now.names) }
-    requires budget { HasBudget command }
+    requires plain { IsPlain command }
     ensures { HasAnswered bytes.now command (change K.held K.faults out.old out.new) result }
 {
     match command {
@@ -81,13 +84,14 @@ fn answer_prepared<K: Sink>(
         Command::Inv => write_invariants(alloc, prepared, out),
         Command::Verify => write_verdict(alloc, prepared, out),
         Command::Prove(budget) => write_search(alloc, bytes, prepared, budget, out),
+        Command::Simulate(_) => unreachable!(),
     }
 }
 
-/// Writes the command's output for the bytes. A refusal for the document, its net, its tape, its proof or its
-/// invariants leaves `out`.
+/// Writes the output of a command, other than `sim`, for the bytes. A refusal for the document, its net, its tape, its
+/// proof or its invariants leaves `out`.
 pub fn answer<K: Sink>(alloc: Global, command: Command, bytes: &[u8], out: &mut K) -> Ended
-    requires { HasBudget command }
+    requires { IsPlain command }
     ensures { HasAnswered bytes.now command (change K.held K.faults out.old out.new) result }
 {
     match prepare(alloc, bytes) {

@@ -1,7 +1,7 @@
 //! The budget of `prove`: so many nodes and pivots at most.
 
 ghost use Rattle.std.specs.Prelude.{◌≡◌, ◌∷◌, [], IfOk, IfSome};
-ghost use Rattle.xm_commands.specs.Inner.Budget.{HasBudget};
+ghost use Rattle.xm_commands.specs.Inner.Plain.{IsPlain};
 ghost use Rattle.xm_commands.specs.Words.{budget_of, budget_option as option_of, prove_in};
 ghost use Rattle.xm_model.specs.Naming.{texts_of};
 
@@ -40,7 +40,7 @@ fn budget_in(values: &[Option<u64>]) -> u64
 /// The search that the words behind `prove` call.
 pub fn read_prove(alloc: Global, rest: &[Text]) -> Result<Option<Command>, OutOfMemory>
     ensures called { IfOk result (λ called. called ≡ prove_in (texts_of rest.now)) }
-    ensures within { IfOk result (λ called. IfSome called HasBudget) }
+    ensures within { IfOk result (λ called. IfSome called IsPlain) }
 {
     let options = [budget_option()];
     match read_options(alloc, &options, rest)? {

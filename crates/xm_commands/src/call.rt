@@ -1,8 +1,9 @@
 //! The calls that words make: a command for a document, or a document that is drawn.
 
-ghost use Rattle.std.specs.Prelude.{◌≡◌, IfOk, IfSome};
+ghost use Rattle.std.specs.Prelude.{◌≡◌, IfOk, IfSome, false};
 ghost use Rattle.xm_commands.specs.Calls.{call_of, generate_options as wanted_options, generate_with};
 ghost use Rattle.xm_commands.specs.Inner.CallEnded.{IsWithin};
+ghost use Rattle.xm_commands.specs.Words.{is_sim};
 ghost use Rattle.xm_model.specs.Naming.{texts_of};
 ghost use Rattle.xm_options.specs.Grammar.{AreWithin, options_in};
 ghost use Rattle.std.specs.Prelude.{option_and_then};
@@ -69,8 +70,9 @@ fn read_generate(alloc: Global, words: &[Text]) -> Result<Option<Call>, OutOfMem
     }
 }
 
-/// The call that the words make, where they are words that the program knows.
+/// The call, other than of `sim`, that the words make, where they are words that the program knows.
 pub fn read_call(alloc: Global, words: &Words) -> Result<Option<Call>, OutOfMemory>
+    requires { is_sim words.now ≡ false }
     ensures exact { IfOk result (λ called. called ≡ call_of words.now) }
     ensures within { IfOk result (λ called. IfSome called IsWithin) }
 {

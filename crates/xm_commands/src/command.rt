@@ -1,9 +1,9 @@
 //! The commands, and the words that call them.
 
-ghost use Rattle.std.specs.Prelude.{◌≡◌, ◌∷◌, IfOk, IfSome, codes};
+ghost use Rattle.std.specs.Prelude.{◌≡◌, ◌∷◌, IfOk, IfSome, codes, false};
 ghost use Rattle.std.specs.Str.{bytes_eq};
-ghost use Rattle.xm_commands.specs.Inner.Budget.{HasBudget};
-ghost use Rattle.xm_commands.specs.Words.{command_in, command_named, command_of};
+ghost use Rattle.xm_commands.specs.Inner.Plain.{IsPlain};
+ghost use Rattle.xm_commands.specs.Words.{command_in, command_named, command_of, is_sim as is_sim_of};
 ghost use Rattle.xm_model.specs.Naming.{texts_of};
 
 use crate::budget::read_prove;
@@ -12,8 +12,16 @@ use xm_io::Words;
 use xm_model::{OutOfMemory, Text};
 use xm_options::read_options;
 
+/// In how many parts a run is simulated, by how many workers, and how many snapshots of it are told.
+#[derive(Clone, Copy, PartialEq, Eq, Debug)]
+pub struct Simulation {
+    pub parts: u32,
+    pub workers: u32,
+    pub watch: u32,
+}
+
 /// What the program does: print the sizes and colours of a net, the run of its tape, its invariants, the verdict on
-/// its proof, or what a search for one finds in so many nodes and pivots.
+/// its proof, what a search for one finds in so many nodes and pivots, or the run as workers simulate it.
 #[derive(Clone, Copy, PartialEq, Eq, Debug)]
 pub enum Command {
     Check,
@@ -21,6 +29,7 @@ pub enum Command {
     Inv,
     Verify,
     Prove(u64),
+    Simulate(Simulation),
 }
 
 /// How an output turned out: a verdict that is no, and a search that finds no proof, is `No`, and any other output is
@@ -33,7 +42,7 @@ pub enum Outcome {
 
 fn named(word: &[u8]) -> Option<Command>
     ensures named { result ≡ command_named word.now }
-    ensures within { IfSome result HasBudget }
+    ensures within { IfSome result IsPlain }
 {
     if word == b"check".as_slice() {
         Some(Command::Check)
@@ -48,18 +57,30 @@ fn named(word: &[u8]) -> Option<Command>
     }
 }
 
-fn is_prove(word: &[u8]) -> bool
-    ensures { result ≡ bytes_eq word.now (codes "prove") }
+/// Whether the word is this one.
+fn is_word(word: &[u8], it: &[u8]) -> bool
+    ensures { result ≡ bytes_eq word.now it.now }
 {
-    word == b"prove".as_slice()
+    word == it
 }
 
-/// The command that a first word and those behind it call.
-fn read_called(alloc: Global, word: &Text, rest: &[Text]) -> Result<Option<Command>, OutOfMemory>
-    ensures called { IfOk result (λ called. called ≡ command_in (word.now.items ∷ texts_of rest.now)) }
-    ensures within { IfOk result (λ called. IfSome called HasBudget) }
+/// Whether the first word is `sim`.
+pub fn is_sim(words: &Words) -> bool
+    ensures { result ≡ is_sim_of words.now }
 {
-    if is_prove(word.as_bytes()) {
+    match words.words.as_slice() {
+        [word, ..] => is_word(word.as_bytes(), b"sim"),
+        [] => false,
+    }
+}
+
+/// The command, other than `sim`, that a first word and those behind it call.
+fn read_called(alloc: Global, word: &Text, rest: &[Text]) -> Result<Option<Command>, OutOfMemory>
+    requires { bytes_eq word.now.items (codes "sim") ≡ false }
+    ensures called { IfOk result (λ called. called ≡ command_in (word.now.items ∷ texts_of rest.now)) }
+    ensures within { IfOk result (λ called. IfSome called IsPlain) }
+{
+    if is_word(word.as_bytes(), b"prove") {
         return read_prove(alloc, rest);
     }
     match read_options(alloc, &[], rest)? {
@@ -68,10 +89,11 @@ fn read_called(alloc: Global, word: &Text, rest: &[Text]) -> Result<Option<Comma
     }
 }
 
-/// The command that the words call, where they are words that the program knows.
+/// The command, other than `sim`, that the words call, where they are words that the program knows.
 pub fn read_command(alloc: Global, words: &Words) -> Result<Option<Command>, OutOfMemory>
+    requires { is_sim_of words.now ≡ false }
     ensures called { IfOk result (λ called. called ≡ command_of words.now) }
-    ensures within { IfOk result (λ called. IfSome called HasBudget) }
+    ensures within { IfOk result (λ called. IfSome called IsPlain) }
 {
     match words.words.as_slice() {
         [word, rest @ ..] => read_called(alloc, word, rest),

@@ -2,7 +2,7 @@
 
 ghost use Rattle.std.specs.Prelude.{◌≤◌};
 ghost use Rattle.xm_commands.specs.Inner.CallEnded.{HasGenerated};
-ghost use Rattle.xm_commands.specs.Inner.WhyEnded.{change};
+ghost use Rattle.xm_commands.specs.Change.{change};
 
 use crate::command::Outcome;
 use crate::refusal::{Ended, Refusal};

@@ -3,7 +3,8 @@
 ghost use Rattle.std.specs.Prelude.{◌≡◌, ℕ, List as Items, Ok, map};
 ghost use Rattle.xm_commands.specs.Inner.Invariants.{IsFlowFault, IsOverflow};
 ghost use Rattle.xm_commands.specs.Inner.Prepared.{IsPrepared, IsRefusedAs};
-ghost use Rattle.xm_commands.specs.Inner.WhyEnded.{HasAnswered, change};
+ghost use Rattle.xm_commands.specs.Change.{change};
+ghost use Rattle.xm_commands.specs.Inner.WhyEnded.{HasAnswered};
 ghost use Rattle.xm_commands.specs.Output.{AreInvariants, HasFlow, IsDesignOf};
 ghost use Rattle.xm_commands.specs.Refusal.{AsksForFlow, AsksForInvariants};
 ghost use Rattle.xm_commands.specs.declared.command.Command.TheVariants as command;
@@ -42,7 +43,7 @@ pub fn flow_refusal(alloc: Global, fault: FlowFault) -> Refusal
 /// The refusal of an elimination without an end.
 pub fn elimination_refusal(alloc: Global, fault: &ElimFault) -> Refusal
     ensures { (bytes : Items ℕ) (it : Command) (doc : Doc) (design : Designed) (rows : Flow)
-        → document_in bytes ≡ Ok doc → IsDesignOf doc design → AsksForInvariants it design → HasFlow design rows
+        → document_in bytes ≡ Ok doc → IsDesignOf doc design → AsksForInvariants it doc design → HasFlow design rows
         → IsOverflow design rows fault.now → IsRefusedAs bytes it result }
 {
     match fault {

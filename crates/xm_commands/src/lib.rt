@@ -1,5 +1,5 @@
 //! The commands of the program: words and the bytes of a document in, the output of the command, or a status
-//! and a line of error, out. The top call is `plain`.
+//! and a line of error, out. The top call is `xmas`.
 #![tactic(auto)]
 
 mod answer;
@@ -13,15 +13,17 @@ mod prepared;
 mod prove;
 mod refusal;
 mod running;
+mod simulating;
+mod simulation_words;
 mod top;
 mod verifying;
 mod writing;
 
 pub use call::Call;
-pub use command::{Command, Outcome};
+pub use command::{Command, Outcome, Simulation, is_sim};
 pub use laws::{
     no_output_of_refused, one_output, one_refusal, printed_invariants_hold, proved_texts_verify,
     verified_nets_hold,
 };
 pub use refusal::{Refusal, refuse};
-pub use top::plain;
+pub use top::{plain, sim_main, xmas};

@@ -7,6 +7,7 @@ mod helpers;
 mod inputs;
 mod lines;
 mod proofs;
+mod simulations;
 mod texts;
 mod verdicts;
 mod words;

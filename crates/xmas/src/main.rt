@@ -9,8 +9,8 @@ use std::env;
 use std::env::Args;
 use std::io::ErrorKind;
 use std::process::ExitCode;
-use xm_commands::{Refusal, plain, refuse};
-use xm_io::{StdSink, StdSource, Words};
+use xm_commands::{Refusal, refuse, xmas};
+use xm_io::{OpenGate, StdSink, StdSource, Words};
 use xm_model::{List, OutOfMemory, Text};
 
 fn main(rt: HostRuntime) -> ExitCode {
@@ -18,7 +18,15 @@ fn main(rt: HostRuntime) -> ExitCode {
     let mut out = StdSink::new(rt.stdout());
     let mut err = StdSink::new(rt.stderr());
     let status = match words_of(&rt) {
-        Ok(words) => plain(rt.alloc(), &words, &mut source, &mut out, &mut err),
+        Ok(words) => xmas(
+            &rt,
+            rt.alloc(),
+            &words,
+            &mut source,
+            &mut out,
+            &mut err,
+            &OpenGate,
+        ),
         Err(OutOfMemory) => refuse(&mut err, &Refusal::Memory),
     };
     ExitCode::from(status)

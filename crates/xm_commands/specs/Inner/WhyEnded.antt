@@ -1,5 +1,6 @@
 -- Inner: how a command ended, with its output or with a refusal, and what it had read and written by then.
 use Rattle.std.specs.Prelude.{◌≡◌, ◌⊎◌, ℕ, List, Option, Some, None, Result, Ok, Err, IsSomeAnd}
+use Rattle.xm_commands.specs.Change.{Change}
 use Rattle.xm_commands.specs.Refusal.{Refuses}
 use Rattle.xm_commands.specs.Status.{Gave, Prints, PrintsFront, PrintsSome, PrintsWhole, most_bytes}
 use Rattle.xm_commands.specs.declared.command.Command.{Command}
@@ -8,26 +9,6 @@ use Rattle.xm_commands.specs.declared.refusal.Refusal.{Refusal}
 use Rattle.xm_commands.specs.declared.refusal.Refusal.TheVariants as refusal
 use Rattle.xm_io.specs.Bytes.{TakesAtMost, TakesMoreThan}
 use Rattle.xm_io.specs.Faults.{Rose}
-
--- a source or a sink before and after a call: itself, its bytes (what is left in a source, what a sink holds), and its
--- count of faults
-pub record Change (T : Type 0) : Type 0 where
-  pub before : T
-  pub after : T
-  pub bytes_before : Option (List ℕ)
-  pub bytes_after : Option (List ℕ)
-  pub faults_before : ℕ
-  pub faults_after : ℕ
-
-abbrev pub change : {T : Type 0} → (T → Option (List ℕ)) → (T → ℕ) → T → T → Change T
-change bytes faults before after = record {
-  before = before;
-  after = after;
-  bytes_before = bytes before;
-  bytes_after = bytes after;
-  faults_before = faults before;
-  faults_after = faults after;
-}
 
 -- there was no fault
 abbrev pub IsUnharmed : {T : Type 0} → Change T → Type 0

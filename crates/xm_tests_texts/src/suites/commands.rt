@@ -1,9 +1,8 @@
 //! The top call over memory: each status with its output and its line of error.
 
-use super::helpers::words_in;
+use super::helpers::{plain_status, words_in};
 use super::inputs::*;
 use std::alloc::Global;
-use xm_commands::plain;
 use xm_design::Design;
 use xm_io::{CleanSource, MemSink, MemSource, Source, Words};
 use xm_model::{List, Names, OutOfMemory, Text};
@@ -78,8 +77,7 @@ fn gives<S: Source>(
     err: &mut MemSink,
     answer: Answer,
 ) -> bool {
-    let status = plain(alloc, words, source, out, err);
-    status == answer.status
+    plain_status(alloc, words, source, out, err) == Some(answer.status)
         && out.held() == answer.out.as_bytes()
         && err.held() == answer.err.as_bytes()
 }
@@ -185,7 +183,7 @@ fn outputs_are_printed(rt: HostRuntime) {
 }
 
 /// Words that are no command.
-const NO_COMMANDS: [&str; 6] = ["", "sim", "check x", "run --", "inv x", "verify x"];
+const NO_COMMANDS: [&str; 6] = ["", "simulate", "check x", "run --", "inv x", "verify x"];
 
 /// Words, a document, the status, and the line of error.
 const REFUSALS: [(&str, &str, u8, &str); 8] = [
@@ -260,7 +258,7 @@ fn status_into(alloc: Global, document: Text, out: &mut MemSink, err: &mut MemSi
     match words_in(alloc, "run") {
         Ok(words) => {
             let mut source = CleanSource::new(document);
-            Some(plain(alloc, &Words { words }, &mut source, out, err))
+            plain_status(alloc, &Words { words }, &mut source, out, err)
         }
         Err(OutOfMemory) => None,
     }

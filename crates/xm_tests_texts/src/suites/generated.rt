@@ -1,11 +1,10 @@
 //! The command that prints a line of stations, and words that are none.
 
 use super::commands::{Answer, SOUND, WITHOUT_OUTPUT, WITHOUT_SOURCE, is_answered, wide};
-use super::helpers::words_in;
+use super::helpers::{plain_status, words_in};
 use super::inputs::STREAM;
 use super::lines::{TWO_STATIONS, has_numbers};
 use std::alloc::Global;
-use xm_commands::plain;
 use xm_io::{CleanSource, MemSink, Words};
 use xm_model::{List, OutOfMemory, Text};
 
@@ -99,16 +98,21 @@ fn other_sizes_and_seeds_are_refused(rt: HostRuntime) {
 }
 
 /// The status for these words.
-fn status_for(alloc: Global, words: List<Text>, out: &mut MemSink, err: &mut MemSink) -> u8 {
+fn status_for(
+    alloc: Global,
+    words: List<Text>,
+    out: &mut MemSink,
+    err: &mut MemSink,
+) -> Option<u8> {
     let mut source = CleanSource::new(Text::new(alloc));
-    plain(alloc, &Words { words }, &mut source, out, err)
+    plain_status(alloc, &Words { words }, &mut source, out, err)
 }
 
 /// Whether these words print a document with so many primitives and channels.
 fn print(alloc: Global, words: List<Text>, out: &mut MemSink, numbers: (usize, u32)) -> bool {
     match wide(alloc, None) {
         Ok(mut err) => {
-            status_for(alloc, words, out, &mut err) == 0
+            status_for(alloc, words, out, &mut err) == Some(0)
                 && has_numbers(alloc, out.held(), numbers.0, numbers.1)
         }
         Err(OutOfMemory) => false,

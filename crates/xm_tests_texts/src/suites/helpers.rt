@@ -1,6 +1,8 @@
-//! Texts of pieces, texts that are just what is expected, and the words of a line.
+//! Texts of pieces, texts that are just what is expected, the words of a line, and their status.
 
 use std::alloc::Global;
+use xm_commands::{is_sim, plain};
+use xm_io::{MemSink, Source, Words};
 use xm_model::{List, OutOfMemory, Text};
 
 /// The pieces, one behind another.
@@ -24,4 +26,18 @@ pub fn words_in(alloc: Global, line: &str) -> Result<List<Text>, OutOfMemory> {
         words.push(Text::from_bytes(alloc, word.as_bytes())?)?;
     }
     Ok(words)
+}
+
+/// The status for words of which the first is not `sim`; there is none for others.
+pub fn plain_status<S: Source>(
+    alloc: Global,
+    words: &Words,
+    source: &mut S,
+    out: &mut MemSink,
+    err: &mut MemSink,
+) -> Option<u8> {
+    if is_sim(words) {
+        return None;
+    }
+    Some(plain(alloc, words, source, out, err))
 }

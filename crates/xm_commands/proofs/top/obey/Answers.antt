@@ -1,6 +1,12 @@
-use Rattle.xm_commands.proofs.Whys.{ok_is_no_err, read_whole}
+use Rattle.std.proofs.Common.{refl}
+use Rattle.xm_commands.proofs.Whys.{not_read, read_whole}
+use Rattle.xm_commands.specs.Change.{change}
 use Rattle.xm_commands.proofs.top.obey.Goals as goal
 
 pub returns-in-Ok : goal.returns-in-Ok
 returns-in-Ok g c =
-    read_whole c.args.command _ _ c.in-Ok.bytes.items c.answer.result (record { whole = c.in-Ok.ensures.whole; within = c.in-Ok.ensures.within }) (c.in-Ok.ensures.unharmed (ok_is_no_err _ _)) (rw c.as_bytes.ensures at c.answer.ensures)
+    read_whole c.args.command _ _ c.in-Ok.bytes.items c.answer.result c.in-Ok.ensures.0 c.in-Ok.ensures.1 (rw c.as_bytes.ensures at c.answer.ensures)
+
+pub returns-in-Err : goal.returns-in-Err
+returns-in-Err g c =
+    not_read c.args.command (change g.S.Source.left g.S.Source.faults c.args.source.now c.read.new.source) (change g.K.Sink.held g.K.Sink.faults c.args.out.now c.args.out.now) c.in-Err.refusal c.in-Err.ensures refl refl

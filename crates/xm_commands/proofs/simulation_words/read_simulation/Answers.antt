@@ -1,0 +1,6 @@
+use Rattle.std.proofs.Common.{ap, rules}
+use Rattle.xm_commands.proofs.Shares.{simulation_read}
+use Rattle.xm_commands.proofs.simulation_words.read_simulation.Goals as goal
+
+pub returns-in-len1-up-clause-exact : goal.returns-in-len1-up-clause-exact
+returns-in-len1-up-clause-exact c = simulation_read c.read_options_of.result c.args.words.now.words.items c.requires (rw c.as_slice.ensures at c.read_options_of.ensures.exact)
