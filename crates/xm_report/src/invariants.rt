@@ -11,7 +11,7 @@ ghost use Rattle.xm_model.specs.Naming.{naming_of};
 ghost use Rattle.xm_report.specs.Invariants as spec;
 ghost use Rattle.xm_report.specs.Invariants.{invariant_line, pair_text, term_text};
 
-use crate::pieces::{push_line, push_name};
+use crate::pieces::{Listed, push_line, push_name};
 use std::alloc::Global;
 use xm_design::Design;
 use xm_flow::{Invariant, queue_pairs};
@@ -28,34 +28,25 @@ pub fn push_pair(text: &mut Text, names: &Names, pair: (u32, u8)) -> Result<(), 
 }
 
 /// Appends a term: a space, its number and its queue pair.
-fn push_term(
-    text: &mut Text,
-    names: &Names,
-    pairs: &[(u32, u8)],
-    entry: Entry,
-) -> Result<(), OutOfMemory>
-    requires { entry.column < length pairs.now }
-    ensures { OnOk result (text.new.items ≡ text.old.items ++ term_text (naming_of names.now) pairs.now entry) }
+fn push_term(text: &mut Text, it: &Listed<'_>, entry: Entry) -> Result<(), OutOfMemory>
+    requires { entry.column < length it.now.pairs.now }
+    ensures { OnOk result (text.new.items ≡ text.old.items
+        ++ term_text (naming_of it.now.names.now) it.now.pairs.now entry) }
 {
     text.push_bytes(b" ")?;
     text.push_number(entry.value)?;
     text.push_bytes(b"*")?;
-    push_pair(text, names, pairs[entry.column as usize])
+    push_pair(text, it.names, it.pairs[entry.column as usize])
 }
 
 /// Appends the terms of a row.
-fn push_terms(
-    text: &mut Text,
-    names: &Names,
-    pairs: &[(u32, u8)],
-    entries: &[Entry],
-) -> Result<(), OutOfMemory>
-    requires { All (λ e. e.column < length pairs.now) entries.now }
+fn push_terms(text: &mut Text, it: &Listed<'_>, entries: &[Entry]) -> Result<(), OutOfMemory>
+    requires { All (λ e. e.column < length it.now.pairs.now) entries.now }
     ensures { OnOk result (text.new.items ≡ text.old.items
-        ++ flat_map (term_text (naming_of names.now) pairs.now) entries.now) }
+        ++ flat_map (term_text (naming_of it.now.names.now) it.now.pairs.now) entries.now) }
 {
     for k in 0..entries.len() {
-        push_term(text, names, pairs, entries[k])?;
+        push_term(text, it, entries[k])?;
     }
     Ok(())
 }
@@ -63,16 +54,15 @@ fn push_terms(
 /// Appends the line of an invariant.
 fn push_invariant(
     text: &mut Text,
-    names: &Names,
-    pairs: &[(u32, u8)],
+    it: &Listed<'_>,
     invariant: &Invariant,
 ) -> Result<(), OutOfMemory>
-    requires { All (λ e. e.column < length pairs.now) invariant.now.row.entries }
+    requires { All (λ e. e.column < length it.now.pairs.now) invariant.now.row.entries }
     ensures { OnOk result (text.new.items ≡ text.old.items
-        ++ invariant_line (naming_of names.now) pairs.now (lemma_of invariant.now)) }
+        ++ invariant_line (naming_of it.now.names.now) it.now.pairs.now (lemma_of invariant.now)) }
 {
     text.push_bytes(b"inv")?;
-    push_terms(text, names, pairs, invariant.row.entries())?;
+    push_terms(text, it, invariant.row.entries())?;
     text.push_bytes(b" = ")?;
     text.push_number(invariant.row.constant())?;
     text.push_bytes(b"\n")
@@ -81,16 +71,15 @@ fn push_invariant(
 /// Appends the lines of invariants.
 fn push_invariants(
     text: &mut Text,
-    names: &Names,
-    pairs: &[(u32, u8)],
+    it: &Listed<'_>,
     invariants: &[Invariant],
 ) -> Result<(), OutOfMemory>
-    requires { All (λ it. All (λ e. e.column < length pairs.now) it.row.entries) invariants.now }
+    requires { All (λ l. All (λ e. e.column < length it.now.pairs.now) l.row.entries) invariants.now }
     ensures { OnOk result (text.new.items ≡ text.old.items
-        ++ flat_map (invariant_line (naming_of names.now) pairs.now) (map lemma_of invariants.now)) }
+        ++ flat_map (invariant_line (naming_of it.now.names.now) it.now.pairs.now) (map lemma_of invariants.now)) }
 {
     for i in 0..invariants.len() {
-        push_invariant(text, names, pairs, &invariants[i])?;
+        push_invariant(text, it, &invariants[i])?;
     }
     Ok(())
 }
@@ -108,8 +97,12 @@ pub fn invariant_lines(
         ≡ spec.invariant_lines (naming_of names.now) design.now (map lemma_of invariants.now)) }
 {
     let pairs = queue_pairs(alloc, design)?;
+    let listed = Listed {
+        names,
+        pairs: pairs.as_slice(),
+    };
     let mut text = Text::new(alloc);
-    push_invariants(&mut text, names, pairs.as_slice(), invariants)?;
+    push_invariants(&mut text, &listed, invariants)?;
     Ok(text)
 }
 

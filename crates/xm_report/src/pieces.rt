@@ -5,7 +5,14 @@ ghost use Rattle.xm_model.specs.TextLines.{name_at};
 ghost use Rattle.xm_model.specs.Naming.{texts_of};
 ghost use Rattle.xm_report.specs.Check.{count_line};
 
-use xm_model::{OutOfMemory, Text, name_of};
+use xm_model::{Names, OutOfMemory, Text, name_of};
+
+/// The names of a net, and the queue pairs of which a text tells.
+#[derive(Clone, Copy)]
+pub struct Listed<'a> {
+    pub names: &'a Names,
+    pub pairs: &'a [(u32, u8)],
+}
 
 /// Appends the name with this number.
 pub fn push_name(text: &mut Text, names: &[Text], i: usize) -> Result<(), OutOfMemory>

@@ -9,7 +9,7 @@ ghost use Rattle.xm_report.specs.Search as spec;
 ghost use Rattle.xm_report.specs.Search.{literal_line, literal_lines, literal_text, number_line, on_channel, packets_line, packets_lines};
 
 use crate::invariants::push_pair;
-use crate::pieces::{push_count, push_name};
+use crate::pieces::{Listed, push_count, push_name};
 use std::alloc::Global;
 use xm_design::Design;
 use xm_flow::queue_pairs;
@@ -113,18 +113,13 @@ fn push_packets(
 }
 
 /// Appends the lines of the packets of queue pairs.
-fn push_counts(
-    text: &mut Text,
-    names: &Names,
-    pairs: &[(u32, u8)],
-    counts: &[i128],
-) -> Result<(), OutOfMemory>
-    requires { length counts.now ≡ length pairs.now }
+fn push_counts(text: &mut Text, it: &Listed<'_>, counts: &[i128]) -> Result<(), OutOfMemory>
+    requires { length counts.now ≡ length it.now.pairs.now }
     ensures { OnOk result (text.new.items ≡ text.old.items
-        ++ flat_map (packets_line (naming_of names.now)) (zip pairs.now counts.now)) }
+        ++ flat_map (packets_line (naming_of it.now.names.now)) (zip it.now.pairs.now counts.now)) }
 {
-    for k in 0..pairs.len() {
-        push_packets(text, names, pairs[k], &counts[k])?;
+    for k in 0..it.pairs.len() {
+        push_packets(text, it.names, it.pairs[k], &counts[k])?;
     }
     Ok(())
 }
@@ -142,16 +137,15 @@ fn push_number_line(text: &mut Text, word: &[u8], n: &i128) -> Result<(), OutOfM
 /// Appends the lines of the packets of these queue pairs, over a denominator.
 fn push_packets_lines(
     text: &mut Text,
-    names: &Names,
-    pairs: &[(u32, u8)],
+    it: &Listed<'_>,
     counts: &[i128],
     denominator: &i128,
 ) -> Result<(), OutOfMemory>
-    requires { length counts.now ≡ length pairs.now }
-    ensures { OnOk result (text.new.items
-        ≡ text.old.items ++ packets_lines (naming_of names.now) pairs.now counts.now denominator.now) }
+    requires { length counts.now ≡ length it.now.pairs.now }
+    ensures { OnOk result (text.new.items ≡ text.old.items
+        ++ packets_lines (naming_of it.now.names.now) it.now.pairs.now counts.now denominator.now) }
 {
-    push_counts(text, names, pairs, counts)?;
+    push_counts(text, it, counts)?;
     push_number_line(text, b"denominator", denominator)
 }
 
@@ -171,9 +165,13 @@ pub fn open_text(
         ≡ spec.open_text (naming_of names.now) design.now goal.now lits.now counts.now denominator) }
 {
     let pairs = queue_pairs(alloc, design)?;
+    let listed = Listed {
+        names,
+        pairs: pairs.as_slice(),
+    };
     let mut text = Text::new(alloc);
     push_literal_lines(&mut text, names, goal, lits)?;
-    push_packets_lines(&mut text, names, pairs.as_slice(), counts, &denominator)?;
+    push_packets_lines(&mut text, &listed, counts, &denominator)?;
     text.push_bytes(b"end\n")?;
     Ok(text)
 }

@@ -12,7 +12,7 @@ ghost use Rattle.xm_model.specs.Views.{content_at};
 ghost use Rattle.xm_report.specs.Snap.{held_text, packets_text, snap_line};
 
 use crate::invariants::push_pair;
-use crate::pieces::push_count;
+use crate::pieces::{Listed, push_count};
 use std::alloc::Global;
 use xm_design::Design;
 use xm_flow::queue_pairs;
@@ -71,17 +71,12 @@ fn push_packets(
 }
 
 /// Appends the packets of the queue pairs in these cells.
-fn push_held(
-    text: &mut Text,
-    names: &Names,
-    pairs: &[(u32, u8)],
-    cells: &[Cell],
-) -> Result<(), OutOfMemory>
+fn push_held(text: &mut Text, it: &Listed<'_>, cells: &[Cell]) -> Result<(), OutOfMemory>
     ensures { OnOk result (text.new.items ≡ text.old.items
-        ++ flat_map (held_text (naming_of names.now) (content_at cells.now)) pairs.now) }
+        ++ flat_map (held_text (naming_of it.now.names.now) (content_at cells.now)) it.now.pairs.now) }
 {
-    for k in 0..pairs.len() {
-        push_packets(text, names, pairs[k], held(cells, pairs[k]))?;
+    for k in 0..it.pairs.len() {
+        push_packets(text, it.names, it.pairs[k], held(cells, it.pairs[k]))?;
     }
     Ok(())
 }
@@ -89,17 +84,16 @@ fn push_held(
 /// Appends the line of a cycle and of the packets in its cells.
 fn push_snapshot(
     text: &mut Text,
-    names: &Names,
-    pairs: &[(u32, u8)],
+    it: &Listed<'_>,
     cycle: u32,
     cells: &[Cell],
 ) -> Result<(), OutOfMemory>
     ensures { OnOk result (text.new.items ≡ text.old.items ++ line (codes "snap " ++ decimal cycle
-        ++ flat_map (held_text (naming_of names.now) (content_at cells.now)) pairs.now)) }
+        ++ flat_map (held_text (naming_of it.now.names.now) (content_at cells.now)) it.now.pairs.now)) }
 {
     text.push_bytes(b"snap ")?;
     push_count(text, u64::from(cycle))?;
-    push_held(text, names, pairs, cells)?;
+    push_held(text, it, cells)?;
     text.push_bytes(b"\n")
 }
 
@@ -116,13 +110,11 @@ pub fn snap_text(
         → IfOk result (λ text. text.items ≡ snap_line (naming_of names.now) design.now cycle s) }
 {
     let pairs = queue_pairs(alloc, design)?;
-    let mut text = Text::new(alloc);
-    push_snapshot(
-        &mut text,
+    let listed = Listed {
         names,
-        pairs.as_slice(),
-        cycle,
-        state.cells.as_slice(),
-    )?;
+        pairs: pairs.as_slice(),
+    };
+    let mut text = Text::new(alloc);
+    push_snapshot(&mut text, &listed, cycle, state.cells.as_slice())?;
     Ok(text)
 }

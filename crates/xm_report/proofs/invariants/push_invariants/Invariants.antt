@@ -6,4 +6,4 @@ use Rattle.xm_report.specs.Invariants.{invariant_line}
 use Rattle.xm_report.proofs.invariants.push_invariants.Given as goal
 
 abbrev pub invariant-loop-i : goal.invariant-loop-i
-invariant-loop-i l = l.text.items ≡ l.fn.text.items ++ flat_map (invariant_line (naming_of l.names) l.pairs) (map lemma_of (take l.i l.invariants))
+invariant-loop-i l = l.text.items ≡ l.fn.text.items ++ flat_map (invariant_line (naming_of l.it.names.now) l.it.pairs.now) (map lemma_of (take l.i l.invariants))

@@ -5,4 +5,4 @@ use Rattle.xm_report.specs.Invariants.{term_text}
 use Rattle.xm_report.proofs.invariants.push_terms.Given as goal
 
 abbrev pub invariant-loop-k : goal.invariant-loop-k
-invariant-loop-k l = l.text.items ≡ l.fn.text.items ++ flat_map (term_text (naming_of l.names) l.pairs) (take l.k l.entries)
+invariant-loop-k l = l.text.items ≡ l.fn.text.items ++ flat_map (term_text (naming_of l.it.names.now) l.it.pairs.now) (take l.k l.entries)

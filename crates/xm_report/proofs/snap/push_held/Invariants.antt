@@ -6,4 +6,4 @@ use Rattle.xm_report.specs.Snap.{held_text}
 use Rattle.xm_report.proofs.snap.push_held.Given as goal
 
 abbrev pub invariant-loop-k : goal.invariant-loop-k
-invariant-loop-k l = l.text.items ≡ l.fn.text.items ++ flat_map (held_text (naming_of l.names) (content_at l.cells)) (take l.k l.pairs)
+invariant-loop-k l = l.text.items ≡ l.fn.text.items ++ flat_map (held_text (naming_of l.it.names.now) (content_at l.cells)) (take l.k l.it.pairs.now)
