@@ -4,6 +4,7 @@
     fabrics.py              writes every document beside this script
     fabrics.py NAME [SIZE]  prints one, as `fabrics.py mesh_xy 4` or `fabrics.py ring 6`
 """
+import inspect
 import json
 import os
 import sys
@@ -300,10 +301,18 @@ DOCUMENTS = {
     "mesh_turning": mesh_turning, "arbiter_tree": arbiter_tree, "ordering_point": ordering_point,
 }
 
+def made(name, sizes):
+    """The named fabric; where there is none, or it takes no such sizes, a line that says what there is."""
+    makers = {**DOCUMENTS, "mesh_xy": mesh_xy}
+    taken = len(inspect.signature(makers[name]).parameters) if name in makers else 0
+    if name not in makers or len(sizes) > taken or not all(size.isdecimal() for size in sizes):
+        sys.exit("usage: fabrics.py [NAME [SIZE]]; the names are " + ", ".join(sorted(makers)))
+    return makers[name](*map(int, sizes))
+
+
 if __name__ == "__main__":
     if len(sys.argv) > 1:
-        makers = {**DOCUMENTS, "mesh_xy": mesh_xy}
-        sys.stdout.write(makers[sys.argv[1]](*map(int, sys.argv[2:])).text())
+        sys.stdout.write(made(sys.argv[1], sys.argv[2:]).text())
     else:
         here = os.path.dirname(os.path.abspath(__file__))
         for document, maker in DOCUMENTS.items():
