@@ -88,28 +88,26 @@ const QUEUE: Case = Case {
     wires: &[IDLE, MOVES_X],
 };
 
-/// A fork whose maps keep their colours. Side b is refused in the first cycle, and then the packet goes both ways.
+/// A fork whose maps keep their colours.
+const KEEPING_FORK: [Piece; 4] = [
+    Piece::Source(0, &[X, Y], SourceMode::Keep),
+    Piece::Fork(0, 1, 2, &[X, Y], &[X, Y]),
+    Piece::Sink(1, SinkMode::Free),
+    Piece::Sink(2, SinkMode::Free),
+];
+
+/// Side b is refused in the first cycle, and then the packet goes both ways.
 const FORK: Case = Case {
-    pieces: &[
-        Piece::Source(0, &[X, Y], SourceMode::Keep),
-        Piece::Fork(0, 1, 2, &[X, Y], &[X, Y]),
-        Piece::Sink(1, SinkMode::Free),
-        Piece::Sink(2, SinkMode::Free),
-    ],
+    pieces: &KEEPING_FORK,
     channels: 3,
     first: &[OFFERS_Y, READY, CLOSED],
     second: &[SILENT, READY, READY],
     wires: &[MOVES_Y, MOVES_Y, MOVES_Y],
 };
 
-/// The same fork, where side b refuses: then nothing is offered on side a.
+/// Side b refuses: then nothing is offered on side a.
 const REFUSED_FORK: Case = Case {
-    pieces: &[
-        Piece::Source(0, &[X, Y], SourceMode::Keep),
-        Piece::Fork(0, 1, 2, &[X, Y], &[X, Y]),
-        Piece::Sink(1, SinkMode::Free),
-        Piece::Sink(2, SinkMode::Free),
-    ],
+    pieces: &KEEPING_FORK,
     channels: 3,
     first: &[SILENT, READY, READY],
     second: &[OFFERS_X, READY, CLOSED],
@@ -171,14 +169,16 @@ const SWITCH: Case = Case {
     wires: &[MOVES_Y, IDLE, MOVES_Y],
 };
 
+const MERGE: [Piece; 4] = [
+    Piece::Source(0, &[X], SourceMode::Keep),
+    Piece::Source(1, &[Y], SourceMode::Keep),
+    Piece::Merge(0, 1, 2),
+    Piece::Sink(2, SinkMode::Free),
+];
+
 /// A merge whose side a was granted and refused is granted again, though side b offers too.
 const STALLED_MERGE: Case = Case {
-    pieces: &[
-        Piece::Source(0, &[X], SourceMode::Keep),
-        Piece::Source(1, &[Y], SourceMode::Keep),
-        Piece::Merge(0, 1, 2),
-        Piece::Sink(2, SinkMode::Free),
-    ],
+    pieces: &MERGE,
     channels: 3,
     first: &[OFFERS_X, SILENT, CLOSED],
     second: &[SILENT, OFFERS_Y, READY],
@@ -187,12 +187,7 @@ const STALLED_MERGE: Case = Case {
 
 /// After a move from side a the merge prefers side b.
 const TURNED_MERGE: Case = Case {
-    pieces: &[
-        Piece::Source(0, &[X], SourceMode::Keep),
-        Piece::Source(1, &[Y], SourceMode::Keep),
-        Piece::Merge(0, 1, 2),
-        Piece::Sink(2, SinkMode::Free),
-    ],
+    pieces: &MERGE,
     channels: 3,
     first: &[OFFERS_X, OFFERS_Y, READY],
     second: &[OFFERS_X, SILENT, READY],

@@ -23,6 +23,26 @@ const SMALLEST: [&str; 4] = [
     "gen --seed=0 --size 2",
 ];
 
+/// Words that are no call: a size or a seed that is out of range, missing, given twice or no number, and further words.
+const NO_CALLS: [&str; 16] = [
+    "gen",
+    "gen --size 2",
+    "gen --seed 0",
+    "gen --size 1 --seed 0",
+    "gen --size 601 --seed 0",
+    "gen --size 0 --seed 0",
+    "gen --size 2 --seed 18446744073709551616",
+    "gen --size 2 --seed -1",
+    "gen --size 2 --size 2 --seed 0",
+    "gen --size 2 --seed 0 --seed=0",
+    "gen --size 2 --seed",
+    "gen --size two --seed 0",
+    "gen --size 02 --seed 0",
+    "gen --size 2 --seed 0 x",
+    "gen 2 0",
+    "check --size 2 --seed 0",
+];
+
 fn all_print_the_smallest(alloc: Global) -> bool {
     SMALLEST.iter().all(|line| is_answered(alloc, *line, b"".as_slice(), SOUND, PRINTED))
 }
@@ -62,26 +82,6 @@ fn leaves_a_front(alloc: Global) -> bool {
 fn a_fault_of_the_output_is_told(rt: HostRuntime) {
     assert!(rt; leaves_a_front(rt.alloc()));
 }
-
-/// Words that are no call: a size or a seed that is out of range, missing, given twice or no number, and further words.
-const NO_CALLS: [&str; 16] = [
-    "gen",
-    "gen --size 2",
-    "gen --seed 0",
-    "gen --size 1 --seed 0",
-    "gen --size 601 --seed 0",
-    "gen --size 0 --seed 0",
-    "gen --size 2 --seed 18446744073709551616",
-    "gen --size 2 --seed -1",
-    "gen --size 2 --size 2 --seed 0",
-    "gen --size 2 --seed 0 --seed=0",
-    "gen --size 2 --seed",
-    "gen --size two --seed 0",
-    "gen --size 02 --seed 0",
-    "gen --size 2 --seed 0 x",
-    "gen 2 0",
-    "check --size 2 --seed 0",
-];
 
 fn all_are_no_calls(alloc: Global) -> bool {
     let answer = Answer {

@@ -5,33 +5,26 @@ use std::alloc::Global;
 use xm_model::{List, OutOfMemory, Text};
 use xm_options::{LongOption, OptionName, no_options, read_options};
 
-const BUDGET: [LongOption; 1] = [LongOption {
-    name: OptionName::Budget,
-    low: 1,
-    high: 10_000_000,
-    wanted: false,
-}];
+fn option(name: OptionName, low: u64, high: u64, wanted: bool) -> LongOption {
+    LongOption {
+        name,
+        low,
+        high,
+        wanted,
+    }
+}
 
-const PARTS: [LongOption; 3] = [
-    LongOption {
-        name: OptionName::Parts,
-        low: 1,
-        high: 64,
-        wanted: true,
-    },
-    LongOption {
-        name: OptionName::Workers,
-        low: 1,
-        high: 64,
-        wanted: true,
-    },
-    LongOption {
-        name: OptionName::Watch,
-        low: 0,
-        high: 10_000,
-        wanted: false,
-    },
-];
+fn budget() -> [LongOption; 1] {
+    [option(OptionName::Budget, 1, 10_000_000, false)]
+}
+
+fn parts() -> [LongOption; 3] {
+    [
+        option(OptionName::Parts, 1, 64, true),
+        option(OptionName::Workers, 1, 64, true),
+        option(OptionName::Watch, 0, 10_000, false),
+    ]
+}
 
 /// The options that there are.
 #[derive(Clone, Copy)]
@@ -47,8 +40,8 @@ fn read(
     words: &[Text],
 ) -> Result<Option<List<Option<u64>>>, OutOfMemory> {
     match grammar {
-        Grammar::Budget => read_options(alloc, &BUDGET, words),
-        Grammar::Parts => read_options(alloc, &PARTS, words),
+        Grammar::Budget => read_options(alloc, &budget(), words),
+        Grammar::Parts => read_options(alloc, &parts(), words),
         Grammar::Nothing => read_options(alloc, &[], words),
     }
 }
