@@ -19,6 +19,13 @@ pub struct Answer<'a> {
     pub err: &'a str,
 }
 
+/// What words that make no call get.
+pub const NO_CALL: Answer = Answer {
+    status: 2,
+    out: "",
+    err: "words\n",
+};
+
 /// A source that gives pieces of ten bytes and an output that takes pieces of five, of which the second
 /// call may fail.
 #[derive(Clone, Copy)]

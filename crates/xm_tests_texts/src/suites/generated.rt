@@ -1,6 +1,6 @@
 //! The command that prints a line of stations, and words that are none.
 
-use super::commands::{Answer, SOUND, WITHOUT_OUTPUT, WITHOUT_SOURCE, is_answered, wide};
+use super::commands::{Answer, NO_CALL, SOUND, WITHOUT_OUTPUT, WITHOUT_SOURCE, is_answered, wide};
 use super::helpers::{plain_status, words_in};
 use super::inputs::STREAM;
 use super::lines::{TWO_STATIONS, has_numbers};
@@ -13,6 +13,13 @@ const PRINTED: Answer = Answer {
     status: 0,
     out: TWO_STATIONS,
     err: "",
+};
+
+/// Where the output fails, the first five bytes are written.
+const FRONT: Answer = Answer {
+    status: 7,
+    out: "{\"col",
+    err: "write\n",
 };
 
 /// Words that call for it.
@@ -68,14 +75,8 @@ fn the_source_is_not_read(rt: HostRuntime) {
     assert!(rt; prints_without_a_source(rt.alloc()));
 }
 
-/// The first five bytes are written.
 fn leaves_a_front(alloc: Global) -> bool {
-    let answer = Answer {
-        status: 7,
-        out: "{\"col",
-        err: "write\n",
-    };
-    is_answered(alloc, SMALLEST[0], b"".as_slice(), WITHOUT_OUTPUT, answer)
+    is_answered(alloc, SMALLEST[0], b"".as_slice(), WITHOUT_OUTPUT, FRONT)
 }
 
 #[test]
@@ -84,12 +85,7 @@ fn a_fault_of_the_output_is_told(rt: HostRuntime) {
 }
 
 fn all_are_no_calls(alloc: Global) -> bool {
-    let answer = Answer {
-        status: 2,
-        out: "",
-        err: "words\n",
-    };
-    NO_CALLS.iter().all(|line| is_answered(alloc, *line, STREAM.as_bytes(), SOUND, answer))
+    NO_CALLS.iter().all(|line| is_answered(alloc, *line, STREAM.as_bytes(), SOUND, NO_CALL))
 }
 
 #[test]

@@ -1,6 +1,6 @@
 //! Simulations by the top call: what `sim` prints, and what it refuses.
 
-use super::commands::{Answer, wide};
+use super::commands::{Answer, NO_CALL, wide};
 use super::helpers::words_in;
 use super::inputs::{NO_TAPE, STREAM, THREE_ROUNDS};
 use std::alloc::Global;
@@ -87,42 +87,10 @@ const CASES: [(&str, &str, Answer<'static>); 7] = [
             err: "",
         },
     ),
-    (
-        "sim",
-        STREAM,
-        Answer {
-            status: 2,
-            out: "",
-            err: "words\n",
-        },
-    ),
-    (
-        "sim --parts 2",
-        STREAM,
-        Answer {
-            status: 2,
-            out: "",
-            err: "words\n",
-        },
-    ),
-    (
-        "sim --parts 65 --workers 1",
-        STREAM,
-        Answer {
-            status: 2,
-            out: "",
-            err: "words\n",
-        },
-    ),
-    (
-        "sim --parts 2 --workers 2 --watch 10001",
-        STREAM,
-        Answer {
-            status: 2,
-            out: "",
-            err: "words\n",
-        },
-    ),
+    ("sim", STREAM, NO_CALL),
+    ("sim --parts 2", STREAM, NO_CALL),
+    ("sim --parts 65 --workers 1", STREAM, NO_CALL),
+    ("sim --parts 2 --workers 2 --watch 10001", STREAM, NO_CALL),
     (
         "sim --parts 2 --workers 2",
         NO_TAPE,
