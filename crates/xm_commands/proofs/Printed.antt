@@ -24,8 +24,8 @@ all_meet : (P : Lemma → Type 0) (Q : Lemma → Type 0) (ls : List Lemma) → (
 all_meet P Q [] h all = All-nil P
 all_meet P Q (l ∷ ls) h all = All-cons P l ls (h l (All-head Q l ls all)) (all_meet P Q ls h (All-tail Q l ls all))
 
-hold : LemmasHold → (net : Network) (design : Designed) (lemmas : List Lemma) (doc : Doc) → IsDesignOf doc design → AreInvariants design lemmas → HoldOnRuns doc.net design lemmas
-hold law net design lemmas doc is it cycles w s φ tape run t within =
+pub hold : LemmasHold → (design : Designed) (lemmas : List Lemma) (doc : Doc) → IsDesignOf doc design → AreInvariants design lemmas → HoldOnRuns doc.net design lemmas
+hold law design lemmas doc is it cycles w s φ tape run t within =
     all_meet (λ l. Meets l.row (pos 1) (point (count_columns design) (count_value (s t)))) (IsValid (pair_count design) (queue_pair_count design) it.rows.rows) lemmas
     (λ l valid. law design it.rows.rows l cycles w s φ is.designed it.has_flow.is_flow.rows valid (subst (λ (n : Network). TapeFits n cycles w) (sym is.net) tape) (subst (λ (n : Network). IsRun n cycles w s φ) (sym is.net) run) t within) it.basis.valid
 
@@ -40,7 +40,7 @@ printed_hold law bytes text turned output = by_output output
       read = read;
       is_design = is;
       printed = refl;
-      hold = hold law doc.net design lemmas doc is it;
+      hold = hold law design lemmas doc is it;
     }
 
 -- ---- what was written

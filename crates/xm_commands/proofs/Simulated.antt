@@ -9,12 +9,13 @@ use Rattle.std.specs.List.{flat_map}
 use Rattle.std.specs.Option.{option_map}
 use Rattle.std.specs.Prelude.{◌==◌, if◌then◌else◌, IfErr, IfOk, OnErr, OnOk}
 use Rattle.std.specs.Io.KnownBytes.{Appends}
+use Rattle.xm_commands.proofs.Printed.{hold}
 use Rattle.xm_commands.proofs.Ran.{Ran, output_ended, output_failed}
 use Rattle.xm_commands.specs.Change.{Change}
 use Rattle.xm_commands.specs.Inner.Prepared.{IsPrepared}
 use Rattle.xm_commands.specs.Inner.Simulating.{AreInvariantLines, AreTaken}
 use Rattle.xm_commands.specs.Inner.WhyEnded.{HasAnswered, IsCause, IsUnharmed, IsWriteFault}
-use Rattle.xm_commands.specs.Output.{AreSnapCycles, IsOutput, IsWatchedText, of_sim, of_watched, snap_lines}
+use Rattle.xm_commands.specs.Output.{AreSnapCycles, HoldIn, IsOutput, IsWatchedText, of_sim, of_watched, snap_lines}
 use Rattle.xm_commands.specs.declared.command.Command.TheVariants as command
 use Rattle.xm_commands.specs.declared.command.Outcome.{Outcome}
 use Rattle.xm_commands.specs.declared.command.Outcome.TheVariants as outcome
@@ -22,6 +23,7 @@ use Rattle.xm_commands.specs.declared.command.Simulation.{Simulation}
 use Rattle.xm_commands.specs.declared.prepared.Prepared.{Prepared}
 use Rattle.xm_commands.specs.declared.refusal.Refusal.{Refusal}
 use Rattle.xm_design.specs.Designed.{Designed}
+use Rattle.xm_flow.specs.Holding.{LemmasHold}
 use Rattle.xm_io.specs.Bytes.{AppendsFront}
 use Rattle.xm_io.specs.Lemmas.Appending.{Appends-then}
 use Rattle.xm_io.specs.Lemmas.Fronts.{appends_nothing, front_more, on_err_goes, on_ok_goes}
@@ -34,7 +36,7 @@ use Rattle.xm_parts.specs.declared.row.Snapshot.{Snapshot}
 use Rattle.xm_report.specs.Invariants.{invariant_lines}
 use Rattle.xm_report.specs.Snap.{snap_line}
 use Rattle.xm_tape.specs.Reading.{tape_in}
-use Rattle.xm_tape.specs.Taped.{Taped, cycles_of}
+use Rattle.xm_tape.specs.Taped.{Fits, Taped, chosen, cycles_of, rows_of}
 use Rattle.xm_trace.specs.Runs.{IsRunOf}
 use Rattle.xm_trace.specs.Text.{run_text}
 use Rattle.xm_work.specs.Counts.{AreCounts, NoneMissing, least_cycle}
@@ -136,7 +138,7 @@ module _ (bytes : List ℕ) (it : Prepared) (is : IsPrepared bytes it) (tape : T
   unwatched r sink none turned whole front unharmed cause =
       output_ended r bytes ran.text (command.Simulate asked) sink (of_sim asked ran.text none ran.is_output) turned whole front unharmed cause
 
-  module _ (some : 0 < asked.watch) (lines : List ℕ) (are : AreInvariantLines (naming_of it.names) it.design lines) where
+  module _ (law : LemmasHold) (fits : Fits it.design.net tape) (some : 0 < asked.watch) (lines : List ℕ) (are : AreInvariantLines (naming_of it.names) it.design lines) where
     -- what stands behind the text of the run
     abbrev behind : List ℕ → List ℕ
     behind cycles = lines ++ snap_lines (naming_of it.names) it.design ran.states cycles
@@ -144,16 +146,24 @@ module _ (bytes : List ℕ) (it : Prepared) (is : IsPrepared bytes it) (tape : T
     abbrev of_doc : List ℕ → Naming → List ℕ → List ℕ
     of_doc cycles names told = run_text names ran.frames (cycles_of tape) ++ (told ++ snap_lines names it.design ran.states cycles)
 
+    on_run : IsRunOf is.doc.net tape ran.states ran.frames
+    on_run = subst (λ (net : Network). IsRunOf net tape ran.states ran.frames) is.design.net ran.run
+
+    holding : (t : ℕ) → t ≤ cycles_of tape → HoldIn it.design are.lemmas (ran.states t)
+    holding t within =
+        hold law it.design are.lemmas is.doc is.design are.invariants (cycles_of tape) (chosen is.doc.net.prims (rows_of tape)) ran.states ran.frames (subst (λ (net : Network). Fits net tape) is.design.net fits) on_run t within
+
     watched : (cycles : List ℕ) → AreSnapCycles asked.watch (cycles_of tape) cycles → IsOutput bytes (command.Simulate asked) outcome.Yes (ran.text ++ behind cycles)
     watched cycles are_cycles =
         of_watched asked is.doc it.design tape (ran.text ++ behind cycles) some is.read is.design read (record {
           states = ran.states;
           frames = ran.frames;
-          run = subst (λ (net : Network). IsRunOf net tape ran.states ran.frames) is.design.net ran.run;
+          run = on_run;
           lemmas = are.lemmas;
           invariants = are.invariants;
           cycles = cycles;
           are_cycles = are_cycles;
+          hold = λ i t at. (let within = are_cycles.within i t at in holding t (omega (arith, within)));
           same = ap (λ (l : List ℕ). l ++ behind cycles) ran.same ∙ ap (λ (l : List ℕ). of_doc cycles (naming_of it.names) l) are.same ∙ ap (λ (names : Naming). of_doc cycles names (invariant_lines names it.design are.lemmas)) is.names
               ∙ sym (append_assoc (run_text is.doc.names ran.frames (cycles_of tape)) (invariant_lines is.doc.names it.design are.lemmas) (snap_lines is.doc.names it.design ran.states cycles));
         })

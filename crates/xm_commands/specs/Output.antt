@@ -2,7 +2,8 @@
 use Rattle.serde_json.specs.Data.{Data}
 use Rattle.serde_json.specs.Written.{compact_text}
 use Rattle.std.specs.List.{flat_map}
-use Rattle.std.specs.Prelude.{◌≡◌, ◌≤◌, ◌<◌, ◌==◌, if◌then◌else◌, ◌++◌, ◌∷◌, [], ℕ, List, length, slice_get, Result, Ok, Some, ℤ}
+use Rattle.std.specs.Prelude.{◌≡◌, ◌≤◌, ◌<◌, ◌==◌, if◌then◌else◌, ◌++◌, ◌∷◌, [], ℕ, List, length, slice_get, All, Result, Ok, Some}
+use Rattle.std.specs.Prelude.{ℤ, pos}
 use Rattle.xm_check.specs.Break.{IsVerdict}
 use Rattle.xm_colours.specs.Allowing.{AllowsAll}
 use Rattle.xm_colours.specs.Family.{colours_at}
@@ -15,7 +16,7 @@ use Rattle.xm_design.specs.Designed.{Designed, IsDesigned}
 use Rattle.xm_elim.specs.Basis.{IsReducedBasis}
 use Rattle.xm_elim.specs.Elimination.{EndsWith}
 use Rattle.xm_flow.specs.FlowRows.{Flow, IsKept}
-use Rattle.xm_flow.specs.Holding.{IsFlowOf, most_pairs, pair_count, queue_pair_count}
+use Rattle.xm_flow.specs.Holding.{IsFlowOf, count_columns, count_value, most_pairs, pair_count, point, queue_pair_count}
 use Rattle.xm_flow.specs.ValidLemma.{Lemma}
 use Rattle.xm_model.specs.Component.{Content}
 use Rattle.xm_model.specs.Naming.{Naming}
@@ -37,6 +38,7 @@ use Rattle.xm_proof_writer.specs.Writing.{proof_data}
 use Rattle.xm_report.specs.Search.{open_text, spent_text}
 use Rattle.xm_report.specs.Snap.{snap_line}
 use Rattle.xm_report.specs.Verdict.{verdict_text}
+use Rattle.xm_rows.specs.Points.{Meets}
 use Rattle.xm_search.specs.Searched.{IsOpen, IsSpent}
 use Rattle.xm_tape.specs.Reading.{tape_in}
 use Rattle.xm_tape.specs.Taped.{Taped, cycles_of}
@@ -63,6 +65,10 @@ pub record AreInvariants (design : Designed) (lemmas : List Lemma) : Type 0 wher
   pub has_flow : HasFlow design rows
   pub left : EndsWith (pair_count design) (queue_pair_count design) rows.rows lemmas
   pub basis : IsReducedBasis (pair_count design) (queue_pair_count design) rows.rows lemmas
+
+-- the row of each holds of the packets of a state
+abbrev pub HoldIn : Designed → List Lemma → (ℕ → Content) → Type 0
+HoldIn design lemmas s = All (λ it. Meets it.row (pos 1) (point (count_columns design) (count_value s))) lemmas
 
 -- the document's proof, with the names of its design, or the path where its form is first broken
 abbrev pub proof_of : Doc → Designed → Result Argument Path
@@ -132,7 +138,8 @@ pub record AreSnapCycles (watch n : ℕ) (cycles : List ℕ) : Type 0 where
   pub within : (i t : ℕ) → slice_get cycles i ≡ Some t → t < n
   pub rise : (i j t u : ℕ) → i < j → slice_get cycles i ≡ Some t → slice_get cycles j ≡ Some u → t ≤ u
 
--- the text of the run of a tape, and behind it the lines of its invariants and of so many snapshots
+-- the text of the run of a tape, and behind it the lines of its invariants and of so many snapshots, in each of which the
+-- invariants hold
 pub record IsWatchedText (doc : Doc) (design : Designed) (tape : Taped) (watch : ℕ) (text : List ℕ) : Type 0 where
   pub states : ℕ → ℕ → Content
   pub frames : ℕ → Signals
@@ -141,6 +148,7 @@ pub record IsWatchedText (doc : Doc) (design : Designed) (tape : Taped) (watch :
   pub invariants : AreInvariants design lemmas
   pub cycles : List ℕ
   pub are_cycles : AreSnapCycles watch (cycles_of tape) cycles
+  pub hold : (i t : ℕ) → slice_get cycles i ≡ Some t → HoldIn design lemmas (states t)
   pub same : text ≡ run_text doc.names frames (cycles_of tape) ++ invariant_lines doc.names design lemmas
       ++ snap_lines doc.names design states cycles
 

@@ -1,7 +1,7 @@
 //! The run of a document as workers simulate it in parts, written, with its invariants and snapshots.
 
-ghost use Rattle.std.specs.Prelude.{◌≡◌, ◌<◌, ◌^◌, ◌*◌, ◌++◌, ℕ, List as Items, IfErr, IfOk, OnErr, OnOk, Ok, Some, length, map, slice_get};
 ghost use Rattle.std.specs.Io.KnownBytes.{Appends};
+ghost use Rattle.std.specs.Prelude.{◌≡◌, ◌<◌, ◌^◌, ◌*◌, ◌++◌, ℕ, List as Items, IfErr, IfOk, OnErr, OnOk, Ok, Some, length, map, slice_get};
 ghost use Rattle.xm_commands.specs.Change.{change};
 ghost use Rattle.xm_commands.specs.Inner.Prepared.{IsPrepared, IsRefusedAs};
 ghost use Rattle.xm_commands.specs.Inner.Simulating.{AreInvariantLines, AreShown, AreTaken, IsShared};
@@ -31,7 +31,7 @@ use std::sync::Wait;
 use std::thread::Threads;
 use xm_design::Design;
 use xm_elim::invariants;
-use xm_flow::{FlowRows, flow};
+use xm_flow::{FlowRows, flow, lemmas_hold};
 use xm_io::{Gate, Sink};
 use xm_model::{Names, OutOfMemory, Text};
 use xm_order::one_run;
@@ -226,6 +226,7 @@ fn write_watched<K: Sink, G: Gate, R: Threads + Wait + Sync>(
         → HasAnswered bytes (command.Simulate it.now) (change K.held K.faults out.old out.new) result }
 {
     one_run();
+    lemmas_hold();
     prepared.design.is_designed();
     match write_simulated(rt, alloc, it, prepared, tape, out, gate) {
         Ok(snapshots) => write_rest(alloc, prepared, lines, snapshots.as_slice(), out),
