@@ -1,19 +1,19 @@
 //! What a command writes for the bytes of a document, or why it refuses them.
 
 ghost use Rattle.std.specs.Prelude.{◌≡◌, ℕ, List as Items, IfErr, Ok, OnOk};
+ghost use Rattle.xm_commands.specs.Change.{change};
+ghost use Rattle.xm_commands.specs.Inner.Plain.{IsPlain};
+ghost use Rattle.xm_commands.specs.Inner.Prepared.{IsPrepared, IsRefusedAs, is_want_of_tape};
+ghost use Rattle.xm_commands.specs.Inner.WhyEnded.{HasAnswered};
+ghost use Rattle.xm_commands.specs.Output.{IsDesignOf};
+ghost use Rattle.xm_commands.specs.Refusal.{AsksForTape};
+ghost use Rattle.xm_commands.specs.declared.command.Command.TheVariants as command;
 ghost use Rattle.xm_design.specs.Designed.{Designed};
 ghost use Rattle.xm_model.specs.Naming.{IsNamed, naming_of};
 ghost use Rattle.xm_netlist.specs.Doc.{Doc};
 ghost use Rattle.xm_netlist.specs.Reading.{document_in};
 ghost use Rattle.xm_tape.specs.Gives as tape;
 ghost use Rattle.xm_tape.specs.Reading.{tape_in};
-ghost use Rattle.xm_commands.specs.Output.{IsDesignOf};
-ghost use Rattle.xm_commands.specs.Inner.Plain.{IsPlain};
-ghost use Rattle.xm_commands.specs.Inner.Prepared.{IsPrepared, IsRefusedAs, is_want_of_tape};
-ghost use Rattle.xm_commands.specs.Change.{change};
-ghost use Rattle.xm_commands.specs.Inner.WhyEnded.{HasAnswered};
-ghost use Rattle.xm_commands.specs.Refusal.{AsksForTape};
-ghost use Rattle.xm_commands.specs.declared.command.Command.TheVariants as command;
 
 use crate::command::{Command, Outcome};
 use crate::invariants::write_invariants;

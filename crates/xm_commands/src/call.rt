@@ -1,12 +1,12 @@
 //! The calls that words make: a command for a document, or a document that is drawn.
 
 ghost use Rattle.std.specs.Prelude.{◌≡◌, IfOk, IfSome, false};
+ghost use Rattle.std.specs.Prelude.{option_and_then};
 ghost use Rattle.xm_commands.specs.Calls.{call_of, generate_options as wanted_options, generate_with};
 ghost use Rattle.xm_commands.specs.Inner.CallEnded.{IsWithin};
 ghost use Rattle.xm_commands.specs.Words.{is_sim};
 ghost use Rattle.xm_model.specs.Naming.{texts_of};
 ghost use Rattle.xm_options.specs.Grammar.{AreWithin, options_in};
-ghost use Rattle.std.specs.Prelude.{option_and_then};
 
 use crate::command::{Command, read_command};
 use std::alloc::Global;

@@ -1,8 +1,8 @@
 //! The document of a line of stations, written.
 
 ghost use Rattle.std.specs.Prelude.{◌≤◌};
-ghost use Rattle.xm_commands.specs.Inner.CallEnded.{HasGenerated};
 ghost use Rattle.xm_commands.specs.Change.{change};
+ghost use Rattle.xm_commands.specs.Inner.CallEnded.{HasGenerated};
 
 use crate::command::Outcome;
 use crate::refusal::{Ended, Refusal};

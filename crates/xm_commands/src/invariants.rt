@@ -1,9 +1,9 @@
 //! The invariants of a design, written.
 
 ghost use Rattle.std.specs.Prelude.{◌≡◌, ℕ, List as Items, Ok, map};
+ghost use Rattle.xm_commands.specs.Change.{change};
 ghost use Rattle.xm_commands.specs.Inner.Invariants.{IsFlowFault, IsOverflow};
 ghost use Rattle.xm_commands.specs.Inner.Prepared.{IsPrepared, IsRefusedAs};
-ghost use Rattle.xm_commands.specs.Change.{change};
 ghost use Rattle.xm_commands.specs.Inner.WhyEnded.{HasAnswered};
 ghost use Rattle.xm_commands.specs.Output.{AreInvariants, HasFlow, IsDesignOf};
 ghost use Rattle.xm_commands.specs.Refusal.{AsksForFlow, AsksForInvariants};

@@ -6,6 +6,7 @@ mod answer;
 mod budget;
 mod call;
 mod command;
+mod found;
 mod generating;
 mod invariants;
 mod laws;

@@ -1,11 +1,11 @@
 //! From bytes to a checked design.
 
 ghost use Rattle.std.specs.Prelude.{◌≡◌, ℕ, List as Items, map, Ok, Some, IfErr, IfOk};
+ghost use Rattle.xm_commands.specs.Inner.Prepared.{IsNetFault, IsPrepared, IsReadAs, IsRefusedAs, is_of_wiring, is_want, net_fault_line};
 ghost use Rattle.xm_model.specs.Naming.{naming_of};
-ghost use Rattle.xm_shape.specs.Gives.{Fails};
 ghost use Rattle.xm_netlist.specs.Doc.{Doc};
 ghost use Rattle.xm_netlist.specs.Reading.{document_in};
-ghost use Rattle.xm_commands.specs.Inner.Prepared.{IsNetFault, IsPrepared, IsReadAs, IsRefusedAs, is_of_wiring, is_want, net_fault_line};
+ghost use Rattle.xm_shape.specs.Gives.{Fails};
 
 use crate::command::Command;
 use crate::refusal::Refusal;

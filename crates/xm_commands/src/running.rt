@@ -1,9 +1,10 @@
 //! A run that is written round by round.
 
-ghost use Rattle.std.specs.Prelude.{◌≡◌, ◌+◌, ◌-◌, ◌*◌, ◌^◌, ◌<◌, ◌≤◌, ℕ, List as Items, IfErr, IfOk, OnErr, OnOk, length};
 ghost use Rattle.std.specs.Io.KnownBytes.{Appends};
-ghost use Rattle.xm_io.specs.Bytes.{AppendsFront};
+ghost use Rattle.std.specs.Prelude.{◌≡◌, ◌+◌, ◌-◌, ◌*◌, ◌^◌, ◌<◌, ◌≤◌, ℕ, List as Items, IfErr, IfOk, OnErr, OnOk, length};
 ghost use Rattle.xm_commands.specs.Inner.RunSoFar.{IsBegun};
+ghost use Rattle.xm_commands.specs.Inner.WhyEnded.{IsWriteFault};
+ghost use Rattle.xm_io.specs.Bytes.{AppendsFront};
 ghost use Rattle.xm_model.specs.Component.{Content};
 ghost use Rattle.xm_model.specs.Naming.{Naming, naming_of};
 ghost use Rattle.xm_model.specs.Signals.{Signals};
@@ -11,7 +12,6 @@ ghost use Rattle.xm_tape.specs.Taped.{cycles_of};
 ghost use Rattle.xm_trace.specs.Labels.{AreLabelsOf};
 ghost use Rattle.xm_trace.specs.Runs.{IsRunOf};
 ghost use Rattle.xm_trace.specs.Text.{IsTextOfRun, round_lines};
-ghost use Rattle.xm_commands.specs.Inner.WhyEnded.{IsWriteFault};
 
 use crate::command::Outcome;
 use crate::refusal::{Ended, Refusal};

@@ -2,22 +2,22 @@
 
 ghost use Rattle.std.specs.Prelude.{◌≡◌, ℕ, List as Items, Ok};
 ghost use Rattle.xm_check.specs.Break.{IsVerdict};
+ghost use Rattle.xm_commands.specs.Change.{change};
 ghost use Rattle.xm_commands.specs.Inner.Prepared.{IsPrepared, IsRefusedAs};
 ghost use Rattle.xm_commands.specs.Inner.Verifying.{IsPersistFault, proof_read};
-ghost use Rattle.xm_commands.specs.Change.{change};
 ghost use Rattle.xm_commands.specs.Inner.WhyEnded.{HasAnswered};
 ghost use Rattle.xm_commands.specs.Output.{HasFlow, IsDesignOf, IsVerdictOf, outcome_of, proof_of};
 ghost use Rattle.xm_commands.specs.Refusal.{AsksForRights};
-ghost use Rattle.xm_commands.specs.declared.command.Command.TheVariants as command;
 ghost use Rattle.xm_commands.specs.declared.command.Command.{Command as Called};
+ghost use Rattle.xm_commands.specs.declared.command.Command.TheVariants as command;
 ghost use Rattle.xm_design.specs.Designed.{Designed};
+ghost use Rattle.xm_json.specs.Gives.{FailsBy};
 ghost use Rattle.xm_model.specs.Naming.{naming_of};
 ghost use Rattle.xm_netlist.specs.Doc.{Doc};
 ghost use Rattle.xm_netlist.specs.Reading.{document_in};
 ghost use Rattle.xm_persist.specs.Rights.{AllGranted};
 ghost use Rattle.xm_proof.specs.Argument.{argument_of};
 ghost use Rattle.xm_proof.specs.Form.{IsFormed};
-ghost use Rattle.xm_json.specs.Gives.{FailsBy};
 ghost use Rattle.xm_proof_reader.specs.Gives.{path_of};
 ghost use Rattle.xm_proof_reader.specs.Known.{known_by};
 ghost use Rattle.xm_proof_reader.specs.Views.{known_of};

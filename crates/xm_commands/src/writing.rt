@@ -1,9 +1,9 @@
 //! The output of a command, written.
 
-ghost use Rattle.std.specs.Prelude.{◌≡◌, ℕ, List as Items, IfErr, IfOk, OnErr, OnOk};
 ghost use Rattle.std.specs.Io.KnownBytes.{Appends};
-ghost use Rattle.xm_commands.specs.Inner.Prepared.{IsPrepared};
+ghost use Rattle.std.specs.Prelude.{◌≡◌, ℕ, List as Items, IfErr, IfOk, OnErr, OnOk};
 ghost use Rattle.xm_commands.specs.Change.{change};
+ghost use Rattle.xm_commands.specs.Inner.Prepared.{IsPrepared};
 ghost use Rattle.xm_commands.specs.Inner.WhyEnded.{HasAnswered};
 ghost use Rattle.xm_commands.specs.declared.command.Command.TheVariants as command;
 ghost use Rattle.xm_io.specs.Bytes.{AppendsFront};

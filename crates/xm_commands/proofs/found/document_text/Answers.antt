@@ -4,7 +4,7 @@ use Rattle.xm_netlist.specs.Doc.{Doc}
 use Rattle.xm_netlist.specs.Documented.{doc_of}
 use Rattle.xm_netlist.specs.Valid.{IsValid}
 use Rattle.xm_commands.proofs.Proving.{again_by, text_by, valid_with}
-use Rattle.xm_commands.proofs.prove.document_text.Goals as goal
+use Rattle.xm_commands.proofs.found.document_text.Goals as goal
 
 pub write_document-requires : goal.write_document-requires
 write_document-requires c =

@@ -5,7 +5,7 @@ use Rattle.xm_proof.specs.Argument.{argument_of}
 use Rattle.xm_proof_reader.specs.Known.{Known}
 use Rattle.xm_proof_reader.specs.Views.{known_of}
 use Rattle.xm_proof_writer.specs.Writable.{CanBeWritten}
-use Rattle.xm_commands.proofs.prove.proof_value.Goals as goal
+use Rattle.xm_commands.proofs.found.proof_value.Goals as goal
 
 pub write_proof-requires : goal.write_proof-requires
 write_proof-requires c = subst (λ (k : Known). CanBeWritten k (argument_of c.args.proof.now)) (sym c.in_ok-known.ensures) c.requires

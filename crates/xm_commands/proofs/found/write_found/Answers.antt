@@ -6,7 +6,7 @@ use Rattle.xm_flow.specs.ValidLemma.{Lemma, lemma_of}
 use Rattle.xm_proof.specs.Argument.{argument_of}
 use Rattle.xm_search.specs.Searched.{IsFound}
 use Rattle.xm_search.specs.declared.found.Found.{Found}
-use Rattle.xm_commands.proofs.prove.write_found.Goals as goal
+use Rattle.xm_commands.proofs.found.write_found.Goals as goal
 
 -- what is found, where it is known to be this
 found_as : (it : Designed) (ls : List Lemma) (budget : ℕ) (f g : Found) → f ≡ g → IsFound it ls budget f

@@ -8,7 +8,7 @@ use Rattle.xm_commands.specs.declared.command.Outcome.TheVariants as outcome
 use Rattle.xm_lits.specs.declared.literal.Lit.{Lit}
 use Rattle.xm_model.specs.Naming.{naming_of}
 use Rattle.xm_report.specs.Search.{open_text}
-use Rattle.xm_commands.proofs.prove.write_open.Goals as goal
+use Rattle.xm_commands.proofs.found.write_open.Goals as goal
 
 pub returns-in-Ok : goal.returns-in-Ok
 returns-in-Ok g c = λ budget lemmas searched is_open.

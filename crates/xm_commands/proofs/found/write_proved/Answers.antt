@@ -5,7 +5,7 @@ use Rattle.xm_commands.specs.declared.command.Command.TheVariants as command
 use Rattle.xm_commands.specs.declared.command.Outcome.TheVariants as outcome
 use Rattle.xm_proof.specs.Argument.{argument_of}
 use Rattle.serde_json.specs.View.{view}
-use Rattle.xm_commands.proofs.prove.write_proved.Goals as goal
+use Rattle.xm_commands.proofs.found.write_proved.Goals as goal
 
 pub proof_value-requires : goal.proof_value-requires
 proof_value-requires g c =

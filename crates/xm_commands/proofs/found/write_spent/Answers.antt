@@ -5,7 +5,7 @@ use Rattle.xm_commands.specs.declared.command.Command.TheVariants as command
 use Rattle.xm_commands.specs.declared.command.Outcome.TheVariants as outcome
 use Rattle.xm_proof.specs.Argument.{argument_of, refutation_of}
 use Rattle.xm_proof.specs.declared.proof.Goal.{Goal}
-use Rattle.xm_commands.proofs.prove.write_spent.Goals as goal
+use Rattle.xm_commands.proofs.found.write_spent.Goals as goal
 
 pub partial_text-requires : goal.partial_text-requires
 partial_text-requires g c =

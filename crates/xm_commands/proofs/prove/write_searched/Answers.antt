@@ -29,3 +29,9 @@ returns-in-Err g c =
     refused_cause c.args.bytes.now (command.Prove c.args.budget) _ c.search_refusal.result
     (c.search_refusal.ensures c.args.bytes.now c.args.budget c.requires.prepared.doc c.args.prepared.now.design (map lemma_of c.args.lemmas.now) c.requires.prepared.read c.requires.prepared.design
     c.requires.cited.searched c.in-Err.ensures.fault) refl refl
+
+pub search-requires-clause-low : goal.search-requires-clause-low
+search-requires-clause-low g c = c.requires.plain.0
+
+pub search-requires-clause-high : goal.search-requires-clause-high
+search-requires-clause-high g c = c.requires.plain.1
