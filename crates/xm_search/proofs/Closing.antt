@@ -1,12 +1,13 @@
 -- A refutation by multipliers and lows closes the path.
-use Rattle.std.proofs.Common.{◌≡◌, ◌≢◌, ℕ, zero, suc, ◌+◌, ◌<◌, ◌^◌, Some, List, [], ◌∷◌, ◌++◌, length, take, Bool, true, false, ◌&&◌, cond, inl, inr, refl, sym, ◌∙◌, ap, subst, arith, pos, negsuc, ℤ, ◌+ℤ◌, ◌*ℤ◌, ◌≤ℤ◌, neg_ℤ, unsigned_abs, int_eq, slice_get, eq-eqb, ne_eqb}
+use Rattle.std.proofs.Common.{◌≡◌, ◌≢◌, ℕ, zero, suc, ◌+◌, ◌<◌, ◌^◌, Some, List, [], ◌∷◌, ◌++◌, length, take, Bool, true, false, ◌&&◌, cond, inl, inr, refl, sym, ◌∙◌, ap, subst, arith, pos, negsuc, ℤ, ◌+ℤ◌, ◌*ℤ◌, ◌≤ℤ◌, neg_ℤ, unsigned_abs, int_eq, slice_get, eq-eqb, ne_eqb, length-append, ◌≤◌, All}
 use Rattle.std.specs.Prelude.{nat_eq}
 use Rattle.std.proofs.lemmas.Bool.{cases_Bool, cases_eq, cond-true, cond-false, lt-ltb}
 use Rattle.std.proofs.lemmas.Bool.Decides.{Decides-int_eq}
 use Rattle.std.proofs.lemmas.Int.{ints}
 use Rattle.std.proofs.lemmas.List.{get_or-replicate, length-replicate}
-use Rattle.std.proofs.lemmas.List.Elements.{All-cons, All-nil}
+use Rattle.std.proofs.lemmas.List.Elements.{All-append, All-cons, All-nil}
 use Rattle.std.proofs.Math.IntN.{*ℤ-zero}
+use Rattle.std.proofs.Math.Seq.{take-length}
 use Rattle.xm_colours.specs.Family.{colours_at}
 use Rattle.xm_design.specs.Designed.{Designed, IsDesigned}
 use Rattle.xm_flow.specs.ValidLemma.{Lemma}
@@ -22,14 +23,15 @@ use Rattle.xm_model.specs.Membership.{IsIn, times}
 use Rattle.xm_proof.specs.Lemmas.QueuePairs.{Ordered, Pair, below_apart, below_apart_back, in_at, of_a_queue, pairs_ordered}
 use Rattle.xm_proof.specs.Sums.{Sums, all_zero, no_sums}
 use Rattle.xm_proof.specs.Tests.{entries_where, entry, is_queue_pair, low_row, of_pair, only_where, queue_columns}
-use Rattle.xm_proof.specs.Valid.{AddUp, Closes, has_sign, item_row}
+use Rattle.xm_proof.specs.Valid.{AddUp, Closes, has_sign, item_row, multiplier}
 use Rattle.xm_proof.specs.declared.proof.Item.{Item}
 use Rattle.xm_proof.specs.declared.proof.Item.TheVariants as item
 use Rattle.xm_rows.specs.Lemmas.Integers.{times_one}
 use Rattle.xm_rows.specs.Row.{Fits128, IsRow, SparseRow, coefficient}
 use Rattle.xm_rows.specs.declared.row.Entry.{Entry}
+use Rattle.xm_search.specs.Inner.Fitting.{FitsItems}
 use Rattle.xm_search.specs.Inner.Named.{AllNamed}
-use Rattle.xm_search.specs.Inner.Taken.{all_taken, lows_taken}
+use Rattle.xm_search.specs.Inner.Taken.{all_taken, lows_taken, taken}
 use Rattle.xm_search.proofs.Summing.{Fitting, Holds, Totals, all_added, number, row_added, up_append}
 
 -- the numbers in the columns from j on
@@ -292,3 +294,65 @@ closes it is lemmas path names cons ms lows left count named refutes has =
     all_of : (xs : List ℤ) → take (length xs) xs ≡ xs
     all_of [] = refl
     all_of (x ∷ xs) = ap (λ (l : List ℤ). x ∷ l) (all_of xs)
+
+-- ---- numbers within bounds
+
+abbrev FitsTimes : Item → Type 0
+FitsTimes i = Fits128 (multiplier i)
+
+cond_both : {X : Type 0} (P : X → Type 0) (b : Bool) (x y : X) → P x → P y → P (cond b x y)
+cond_both P true x y one two = one
+cond_both P false x y one two = two
+
+taken_fits : (i : Item) (m : ℤ) → Fits128 m → FitsTimes (taken i m)
+taken_fits (item.Lemma k n) m fits = fits
+taken_fits (item.Cap q n) m fits = fits
+taken_fits (item.Low q d n) m fits = fits
+taken_fits (item.Path l n) m fits = fits
+
+all_taken_fit : (is : List Item) (ms : List ℤ) → ((i : ℕ) → i < length ms → Fits128 (number ms i)) → All FitsTimes (all_taken is ms)
+all_taken_fit [] ms each = All-nil FitsTimes
+all_taken_fit (i ∷ is) [] each = All-nil FitsTimes
+all_taken_fit (i ∷ is) (m ∷ ms) each =
+    let rest = all_taken_fit is ms (λ k h. each (suc k) (omega arith)) in
+    cond_both (All FitsTimes) (int_eq m (pos 0)) (all_taken is ms) (taken i m ∷ all_taken is ms) rest
+    (All-cons FitsTimes (taken i m) (all_taken is ms) (taken_fits i m (each 0 (omega arith))) rest)
+
+lows_taken_fit : (ps : List Pair) (zs : List ℤ) → ((k : ℕ) → k < length zs → Fits128 (number zs k)) → All FitsTimes (lows_taken ps zs)
+lows_taken_fit [] zs each = All-nil FitsTimes
+lows_taken_fit (p ∷ ps) [] each = All-nil FitsTimes
+lows_taken_fit (p ∷ ps) (z ∷ zs) each =
+    let rest = lows_taken_fit ps zs (λ k h. each (suc k) (omega arith)) in
+    cond_both (All FitsTimes) (int_eq z (pos 0)) (lows_taken ps zs) (item.Low p.0 p.1 z ∷ lows_taken ps zs) rest
+    (All-cons FitsTimes (item.Low p.0 p.1 z) (lows_taken ps zs) (each 0 (omega arith)) rest)
+
+all_taken_few : (is : List Item) (ms : List ℤ) → length (all_taken is ms) ≤ length is
+all_taken_few [] ms = omega arith
+all_taken_few (i ∷ is) [] = omega arith
+all_taken_few (i ∷ is) (m ∷ ms) =
+    let rest = all_taken_few is ms in
+    cond_both (λ (l : List Item). length l ≤ suc (length is)) (int_eq m (pos 0)) (all_taken is ms) (taken i m ∷ all_taken is ms) (omega arith) (omega arith)
+
+lows_taken_few : (ps : List Pair) (zs : List ℤ) → length (lows_taken ps zs) ≤ length ps
+lows_taken_few [] zs = omega arith
+lows_taken_few (p ∷ ps) [] = omega arith
+lows_taken_few (p ∷ ps) (z ∷ zs) =
+    let rest = lows_taken_few ps zs in
+    cond_both (λ (l : List Item). length l ≤ suc (length ps)) (int_eq z (pos 0)) (lows_taken ps zs) (item.Low p.0 p.1 z ∷ lows_taken ps zs) (omega arith) (omega arith)
+
+-- multipliers are within bounds, and so is a low, which is opposite to a sum of them
+pub items_fit : (names : List Item) (cons : List Con) (pairs : List Pair) (ms lows : List ℤ) (left n : ℕ) → length names ≡ length cons → length cons ≤ 1073741824 → length pairs < 1048576 →
+    Refutes cons (length pairs) ms lows → HasMultipliers cons (length pairs) left n ms lows → FitsItems (all_taken names ms ++ lows_taken pairs lows)
+items_fit names cons pairs ms lows left count same few few_pairs refutes has =
+    let size = refutes.count in
+    let low_size = refutes.low_count in
+    let low_fits : (k : ℕ) → k < length lows → Fits128 (number lows k) = λ k h. (
+    let within : k < length pairs = omega arith in
+    let sum = subst (λ (l : List ℤ). Fits128 (weighted (in_column k) l cons)) (take-length ms) ((has.fit.entries k within).sums (length ms)) in
+    fits_opposite (weighted (in_column k) ms cons) (number lows k) (refutes.gone k within) sum) in
+    record {
+      few =
+          let one = all_taken_few names ms in let two = lows_taken_few pairs lows in let sum = length-append (all_taken names ms) (lows_taken pairs lows) in
+          omega arith;
+      times = All-append FitsTimes (all_taken names ms) (lows_taken pairs lows) (all_taken_fit names ms (λ i h. has.fit.each i (omega arith))) (lows_taken_fit pairs lows low_fits);
+    }

@@ -2,29 +2,30 @@
 use Rattle.std.proofs.Common.{◌≡◌, ℕ, suc, zero, ◌+◌, ◌≤◌, ◌<◌, List, [], ◌∷◌, ◌++◌, Some, length, map, take, get_or, refl, sym, ◌∙◌, ap, subst, append_assoc, length-append, arith, inl, slice_get}
 use Rattle.std.proofs.lemmas.List.{append-nil, length-map, length-take, take_more}
 use Rattle.std.proofs.Math.Seq.{take-length}
-use Rattle.std.proofs.lemmas.List.Elements.{All-map, All-nil, All-push, All-weaker}
+use Rattle.std.proofs.lemmas.List.Elements.{All-cons, All-head, All-nil, All-push, All-tail, All-take, All-weaker}
 use Rattle.std.proofs.lemmas.Option.{slice_get_read}
 use Rattle.std.specs.Prelude.{◌^◌, ◌-◌, All, true}
 use Rattle.xm_design.specs.Designed.{Designed, IsDesigned}
-use Rattle.xm_flow.specs.ValidLemma.{Lemma, lemma_of}
+use Rattle.xm_flow.specs.ValidLemma.{Lemma}
 use Rattle.xm_lits.specs.declared.literal.Lit.{Lit}
 use Rattle.xm_model.specs.ListView.{ListView}
 use Rattle.xm_model.specs.Membership.{IsIn}
 use Rattle.xm_proof.specs.Argument.{Cite, Clash, Eager, Open, Refutation, Split, Step, Sum, argument_of, literals, refutation_of, step_of}
 use Rattle.xm_proof.specs.Form.{are_trees, kids_of}
-use Rattle.xm_proof.specs.OfNet.{IsGoalOf, IsStepOf}
+use Rattle.xm_proof.specs.OfNet.{IsLiteralOf}
 use Rattle.xm_proof.specs.Valid.{AllRefuted, AreLemmas, GoalsRefuted, IsProof, Refutes}
 use Rattle.xm_proof.specs.declared.proof.Goal.{Goal}
 use Rattle.xm_proof.specs.declared.proof.Node.{Node}
 use Rattle.xm_proof.specs.declared.proof.Proof.{Proof}
 use Rattle.xm_rows.specs.Row.{SparseRow}
 use Rattle.xm_search.proofs.Orders.{order_complete, order_goals}
+use Rattle.xm_search.proofs.TreesOfNet.{AreBelow, goal_of_net, goals_of_net, kid_count}
 use Rattle.xm_search.specs.Candidate.{IsCandidate}
 use Rattle.xm_search.specs.GoalOrder.{IsGoalOrder}
-use Rattle.xm_search.specs.Inner.Formed.{IsGoodGoal}
+use Rattle.xm_search.specs.Inner.Fitting.{FitsStep}
 use Rattle.xm_search.specs.Inner.Goals.{IsFaultOn, IsGoalFound, tree_for}
-use Rattle.xm_search.specs.Inner.Progress.{Adds, FitsFound, IsHalted, IsNext, IsProgress, TakesIn, refutations}
-use Rattle.xm_search.specs.Partial.{AreFinished, IsAtWork, IsPaidTree, IsPartial, for_root, no_root, none, one_more}
+use Rattle.xm_search.specs.Inner.Progress.{Adds, FitsFound, FitsTrees, IsHalted, IsNext, IsProgress, TakesIn, refutations}
+use Rattle.xm_search.specs.Partial.{AreFinished, ArePaid, IsAtWork, IsPaidTree, IsPartial, all_nodes, for_root, no_root, none, one_more, some_kids}
 use Rattle.xm_search.specs.Pivots.{all_whole}
 use Rattle.xm_search.specs.Searched.{IsFault, IsFull, IsOfForm, IsOpen, IsSpent}
 use Rattle.xm_search.specs.Trees.{AreTrees, IsStep, kids, left_by, open_at, open_paths, root}
@@ -91,9 +92,12 @@ module _ (it : Designed) (lemmas : List Lemma) (order : List Lit) (budget place 
       ap literals adds.goals ∙ literals_more (refutations old) (tree_for lit tree) ∙ ap (λ (l : List Lit). l ++ lit ∷ []) g.first
       ∙ ap (λ (x : Lit). take place order ++ x ∷ []) is ∙ sym (take_more order place lit there)
 
-  pub tree_next : IsPaidTree it lemmas (take place order) (tree_for lit tree) nodes pivots → nodes + pivots ≤ budget - old.nodes - old.pivots →
+  fits_new : All FitsStep (map step_of tree) → FitsTrees (refutations old) → FitsTrees (refutations new)
+  fits_new small known = subst FitsTrees (sym adds.goals) (All-push (λ (h : Refutation). All FitsStep h.steps) (refutations old) (tree_for lit tree) known small)
+
+  pub tree_next : IsPaidTree it lemmas (take place order) (tree_for lit tree) nodes pivots → nodes + pivots ≤ budget - old.nodes - old.pivots → All FitsStep (map step_of tree) →
       IsProgress it lemmas order budget (place + 1) new
-  tree_next paid fits =
+  tree_next paid fits small =
       let known = g.within in
       record {
         finished = subst (λ (l : List Refutation). AreFinished it lemmas l new.nodes new.pivots) (sym adds.goals)
@@ -103,6 +107,7 @@ module _ (it : Designed) (lemmas : List Lemma) (order : List Lit) (budget place 
             (subst (λ (l : List Lit). IsPaidTree it lemmas l (tree_for lit tree) nodes pivots) (sym g.first) paid))));
         first = first_new;
         within = let a = adds.node_count in let b = adds.pivot_count in omega arith;
+        fits = fits_new small g.fits;
       }
 
   count_new : length (refutations new) ≡ place + 1
@@ -110,8 +115,9 @@ module _ (it : Designed) (lemmas : List Lemma) (order : List Lit) (budget place 
       let lits = length-map (refutations new) (λ (r : Refutation). r.lit) in let first = ap length first_new in
       let taken = length-take (place + 1) order in omega arith
 
-  pub spent_next : IsAtWork it lemmas (take place order) (tree_for lit tree) nodes pivots → nodes + pivots ≡ budget - old.nodes - old.pivots → IsHalted it lemmas order budget new
-  spent_next work fits =
+  pub spent_next : IsAtWork it lemmas (take place order) (tree_for lit tree) nodes pivots → nodes + pivots ≡ budget - old.nodes - old.pivots → All FitsStep (map step_of tree) →
+      IsHalted it lemmas order budget new
+  spent_next work fits small =
       let known = g.within in
       record {
         partial = record {
@@ -129,6 +135,7 @@ module _ (it : Designed) (lemmas : List Lemma) (order : List Lit) (budget place 
           pivot_count = adds.pivot_count;
         };
         spent = let a = adds.node_count in let b = adds.pivot_count in omega arith;
+        fits = fits_new small g.fits;
       }
 
 none_paid : (it : Designed) (lemmas : List Lemma) (gs : List Refutation) (n p : ℕ) → AreFinished it lemmas gs n p → length gs ≡ 0 → (n ≡ 0) × (p ≡ 0)
@@ -167,7 +174,7 @@ module _ (it : Designed) (lemmas : List Lemma) (order : List Lit) (budget place 
 
   pub took : (f : GoalFound) (n : Next) → IsGoalOrder it order → IsGoalFound it lemmas (take place order) lit (budget - old.nodes - old.pivots) f → TakesIn old lit f n →
       IsNext it lemmas order budget place n
-  took (found.Tree tree nodes pivots) (next.On new) ordered right taken = tree_next it lemmas order budget place old new lit tree.items nodes pivots g there is taken right.0 right.1
+  took (found.Tree tree nodes pivots) (next.On new) ordered right taken = tree_next it lemmas order budget place old new lit tree.items nodes pivots g there is taken right.0 right.1 right.2
   took (found.Open c) (next.Open d) ordered right taken =
       let size : length (refutations old) ≡ place = (let lits = length-map (refutations old) (λ (r : Refutation). r.lit) in let first = ap length g.first in let taken = length-take place order in omega arith) in
       subst (λ (x : Candidate). IsOpen it lemmas x.goal x.lits.items x.denominator x.counts.items) taken
@@ -180,13 +187,17 @@ module _ (it : Designed) (lemmas : List Lemma) (order : List Lit) (budget place 
         refuted = finished_refuted it lemmas (refutations old) old.nodes old.pivots g.finished;
         candidate = subst (λ (l : Lit). IsCandidate it lemmas l c.lits.items c.denominator c.counts.items) (sym right.0) right.1;
       })
-  took (found.Spent tree nodes pivots) (next.Spent new) ordered right taken = spent_next it lemmas order budget place old new lit tree.items nodes pivots g there is taken right.0 right.1
+  took (found.Spent tree nodes pivots) (next.Spent new) ordered right taken = spent_next it lemmas order budget place old new lit tree.items nodes pivots g there is taken right.0 right.1 right.2
   took (found.Tree tree nodes pivots) (next.Open d) ordered right taken = absurd taken
   took (found.Tree tree nodes pivots) (next.Spent d) ordered right taken = absurd taken
   took (found.Open c) (next.On d) ordered right taken = absurd taken
   took (found.Open c) (next.Spent d) ordered right taken = absurd taken
   took (found.Spent tree nodes pivots) (next.On d) ordered right taken = absurd taken
   took (found.Spent tree nodes pivots) (next.Open d) ordered right taken = absurd taken
+
+-- an open root adds up nothing
+pub root_fits : (tree : List Node) → map step_of tree ≡ Open ∷ [] → All FitsStep (map step_of tree)
+root_fits tree is = subst (All FitsStep) (sym is) (All-cons FitsStep Open [] tt (All-nil FitsStep))
 
 -- 128 bits are left on a path that a goal of the order begins
 pub fault_in : (it : Designed) (lemmas : List Lemma) (order : List Lit) (lit : Lit) (f : SearchFault) → IsGoalOrder it order → IsIn order lit → IsFaultOn it lemmas lit f → IsFault it lemmas f
@@ -202,15 +213,6 @@ fault_in it lemmas order lit (fault.Overflow path pivots) ordered in_order is = 
 }
 fault_in it lemmas order lit fault.OutOfMemory ordered in_order is = tt
 
-kid_count : (it : Designed) (lemmas : List Lemma) (before path : List Lit) (s : Step) → IsStep it lemmas before path s → length (kids it path s) ≡ kids_of s
-kid_count it lemmas before path (Split name on via count) is =
-    ap length (ap (left_by path) is.0.found) ∙ length-map is.0.rule.alternatives (λ (a : List Lit). path ++ a) ∙ is.0.whole
-kid_count it lemmas before path (Clash one other) is = refl
-kid_count it lemmas before path (Eager c) is = refl
-kid_count it lemmas before path (Sum items) is = refl
-kid_count it lemmas before path (Cite k) is = refl
-kid_count it lemmas before path Open is = refl
-
 -- the steps are as many trees as there are paths
 trees_form : (it : Designed) (lemmas : List Lemma) (before : List Lit) (steps : List Step) (paths : List (List Lit)) → AreTrees it lemmas before steps paths → are_trees (length paths) steps ≡ true
 trees_form it lemmas before [] [] are = refl
@@ -220,72 +222,97 @@ trees_form it lemmas before (s ∷ steps) (p ∷ ps) are =
     let size : length (kids it p s ++ ps) ≡ kids_of s + length ps = length-append (kids it p s) ps ∙ ap (λ (k : ℕ). k + length ps) (kid_count it lemmas before p s are.0) in
     ap (λ (k : ℕ). are_trees k steps) (sym size) ∙ trees_form it lemmas before steps (kids it p s ++ ps) are.1
 
--- each goal has a tree, with leaves that may be open
-abbrev AreGrown : Designed → List Lemma → List Refutation → Type 0
-AreGrown it lemmas gs = All (λ (g : Refutation). are_trees 1 g.steps ≡ true) gs
+-- a tree, with leaves that may be open, whose steps and earlier goals are numbered in 32 bits
+record IsGrownTree (it : Designed) (lemmas : List Lemma) (g : Refutation) : Type 0 where
+  pub before : List Lit
+  pub few : length before < 2 ^ 32
+  pub tree : AreTrees it lemmas before g.steps (root g.lit)
+  pub short : length g.steps < 2 ^ 32
 
-finished_form : (it : Designed) (lemmas : List Lemma) (gs : List Refutation) (n p : ℕ) → AreFinished it lemmas gs n p → AreGrown it lemmas gs
-finished_form it lemmas _ _ _ (none) = All-nil (λ (g : Refutation). are_trees 1 g.steps ≡ true)
-finished_form it lemmas _ _ _ (one_more gs g n m p r are tree) =
-    All-push (λ (h : Refutation). are_trees 1 h.steps ≡ true) gs g (finished_form it lemmas gs n p are) (trees_form it lemmas (literals gs) g.steps (root g.lit) tree.tree.tree)
+finished_grown : (it : Designed) (lemmas : List Lemma) (gs : List Refutation) (n p : ℕ) → AreFinished it lemmas gs n p → length gs < 2 ^ 32 → n < 2 ^ 32 → All (IsGrownTree it lemmas) gs
+finished_grown it lemmas _ _ _ (none) few small = All-nil (IsGrownTree it lemmas)
+finished_grown it lemmas _ _ _ (one_more gs g n m p r are tree) few small =
+    let size = length-append gs (g ∷ []) in
+    let lits = length-map gs (λ (h : Refutation). h.lit) in
+    let steps = tree.node_count in
+    All-push (IsGrownTree it lemmas) gs g (finished_grown it lemmas gs n p are (omega arith) (omega arith))
+    (record { before = literals gs; few = omega arith; tree = tree.tree.tree; short = omega arith })
 
-partial_form : (it : Designed) (lemmas : List Lemma) (order : List Lit) (gs : List Refutation) (n p : ℕ) → IsPartial it lemmas order gs n p → AreGrown it lemmas gs
-partial_form it lemmas order gs n p is =
-    subst (AreGrown it lemmas) (sym is.goals)
-    (All-push (λ (h : Refutation). are_trees 1 h.steps ≡ true) is.finished is.last (finished_form it lemmas is.finished is.done_nodes is.done_pivots is.done)
-    (trees_form it lemmas (literals is.finished) is.last.steps (root is.last.lit) is.at_work.tree.tree))
+paid_short : (it : Designed) (before : List Lit) (steps : List Step) (leaves : List (List Lit)) (n : ℕ) → ArePaid it before steps leaves n → n < 2 ^ 32 → length steps < 2 ^ 32
+paid_short it before steps leaves _ (all_nodes) small = small
+paid_short it before steps leaves _ (no_root some is) small = subst (λ (l : List Step). length l < 2 ^ 32) (sym is) (omega arith)
+paid_short it before steps leaves _ (some_kids more path rule on needs some less) small = omega arith
 
--- what is of the net and grown is of the form that is read
-formed : (it : Designed) (lemmas : List Lemma) (p : Proof) → map lemma_of p.lemmas.items ≡ lemmas → length p.lemmas.items < 2 ^ 32 → length p.goals.items < 2 ^ 32 →
-    All (IsGoodGoal it.net) p.goals.items → AreGrown it lemmas (map refutation_of p.goals.items) → IsOfForm it lemmas (argument_of p)
-formed it lemmas p same few_lemmas few_goals good grown = record {
-  cites = same;
-  formed = record {
-    few_lemmas = subst (λ (k : ℕ). k < 2 ^ 32) (sym (length-map p.lemmas.items lemma_of)) few_lemmas;
-    few_goals = subst (λ (k : ℕ). k < 2 ^ 32) (sym (length-map p.goals.items refutation_of)) few_goals;
-    short = All-map (λ (r : Refutation). length r.steps < 2 ^ 32) refutation_of p.goals.items
-        (All-weaker (IsGoodGoal it.net) (λ (g : Goal). length (map step_of g.tree.items) < 2 ^ 32)
-        (λ g is. subst (λ (k : ℕ). k < 2 ^ 32) (sym (length-map g.tree.items step_of)) is.short) p.goals.items good);
-    trees = grown;
-  };
-  goals = All-map (IsGoalOf it.net) refutation_of p.goals.items
-      (All-weaker (IsGoodGoal it.net) (λ (g : Goal). IsGoalOf it.net (refutation_of g))
-      (λ g is. record { lit = is.lit; steps = All-map (IsStepOf it.net) step_of g.tree.items is.steps }) p.goals.items good);
-}
+partial_grown : (it : Designed) (lemmas : List Lemma) (order : List Lit) (gs : List Refutation) (n p : ℕ) → IsPartial it lemmas order gs n p → length gs < 2 ^ 32 → n < 2 ^ 32 →
+    All (IsGrownTree it lemmas) gs
+partial_grown it lemmas order gs n p is few small =
+    let size = ap length is.goals ∙ length-append is.finished (is.last ∷ []) in
+    let lits = length-map is.finished (λ (h : Refutation). h.lit) in
+    let count = is.node_count in
+    subst (All (IsGrownTree it lemmas)) (sym is.goals)
+    (All-push (IsGrownTree it lemmas) is.finished is.last (finished_grown it lemmas is.finished is.done_nodes is.done_pivots is.done (omega arith) (omega arith))
+    (record {
+      before = literals is.finished;
+      few = omega arith;
+      tree = is.at_work.tree.tree;
+      short = paid_short it (literals is.finished) is.last.steps (open_paths it is.last.steps (root is.last.lit)) is.more_nodes is.at_work.paid (omega arith);
+    }))
 
--- all goals are refuted
-pub proved_all : (it : Designed) → IsDesigned it → (lemmas : List Lemma) (order : List Lit) (budget : ℕ) (g : Progress) (p : Proof) → IsGoalOrder it order →
-    IsProgress it lemmas order budget (length order) g → map lemma_of p.lemmas.items ≡ lemmas → p.goals ≡ g.goals → length p.lemmas.items < 2 ^ 32 → length p.goals.items < 2 ^ 32 →
-    All (IsGoodGoal it.net) p.goals.items → IsFull it lemmas (argument_of p)
-proved_all it is lemmas order budget g p ordered done same goals few_lemmas few_goals good =
-    let gs : map refutation_of p.goals.items ≡ refutations g = ap (λ (l : ListView Goal). map refutation_of l.items) goals in
-    let finished : AreFinished it lemmas (map refutation_of p.goals.items) g.nodes g.pivots = subst (λ (l : List Refutation). AreFinished it lemmas l g.nodes g.pivots) (sym gs) done.finished in
-    let lits : literals (map refutation_of p.goals.items) ≡ order = ap literals gs ∙ done.first ∙ take-length order in
-    record {
-      form = formed it lemmas p same few_lemmas few_goals good (finished_form it lemmas (map refutation_of p.goals.items) g.nodes g.pivots finished);
-      order = subst (IsGoalOrder it) (sym lits) ordered;
-      proof = λ rows valid. subst (λ (l : List Lemma). IsProof it rows (record { lemmas = l; goals = map refutation_of p.goals.items })) (sym same)
-          (whole_proof it is lemmas order (map refutation_of p.goals.items) g.nodes g.pivots ordered lits finished rows valid);
-    }
+lits_each : (P : Lit → Type 0) (gs : List Refutation) → All P (literals gs) → All (λ (g : Refutation). P g.lit) gs
+lits_each P [] all = All-nil (λ (g : Refutation). P g.lit)
+lits_each P (g ∷ gs) all = All-cons (λ (h : Refutation). P h.lit) g gs (All-head P g.lit (literals gs) all) (lits_each P gs (All-tail P g.lit (literals gs) all))
 
--- the budget is spent
-pub halted_all : (it : Designed) (lemmas : List Lemma) (order : List Lit) (budget : ℕ) (g : Progress) (p : Proof) → IsGoalOrder it order → IsHalted it lemmas order budget g →
-    map lemma_of p.lemmas.items ≡ lemmas → p.goals ≡ g.goals → length p.lemmas.items < 2 ^ 32 → length p.goals.items < 2 ^ 32 → All (IsGoodGoal it.net) p.goals.items →
-    IsSpent it lemmas budget (argument_of p) g.nodes g.pivots
-halted_all it lemmas order budget g p ordered halt same goals few_lemmas few_goals good =
-    let gs : map refutation_of p.goals.items ≡ refutations g = ap (λ (l : ListView Goal). map refutation_of l.items) goals in
-    let part : IsPartial it lemmas order (map refutation_of p.goals.items) g.nodes g.pivots = subst (λ (l : List Refutation). IsPartial it lemmas order l g.nodes g.pivots) (sym gs) halt.partial in
-    record {
-      form = formed it lemmas p same few_lemmas few_goals good (partial_form it lemmas order (map refutation_of p.goals.items) g.nodes g.pivots part);
-      order = order;
-      is_order = ordered;
-      partial = part;
-      spent = halt.spent;
-    }
+module _ (it : Designed) (is : IsDesigned it) (below : AreBelow it) (lemmas : List Lemma) (order : List Lit) (few_lemmas : length lemmas < 4294967296) (ordered : IsGoalOrder it order)
+    (few : length order < 4294967296) (budget : ℕ) (small : budget ≤ 10000000) where
+  few_goals : (gs : List Refutation) (k : ℕ) → literals gs ≡ take k order → length gs < 2 ^ 32
+  few_goals gs k first =
+      let lits = length-map gs (λ (g : Refutation). g.lit) in let size = ap length first in let taken = length-take k order in
+      omega arith
 
--- what holds of all that are taken holds of all
-pub all_done : {X : Type 0} (P : X → Type 0) (xs : List X) (k : ℕ) → k ≡ length xs → All P (take k xs) → All P xs
-all_done P xs k e h = subst (All P) (ap (λ (n : ℕ). take n xs) e ∙ take-length xs) h
+  -- trees whose goals are the first of the order, within bounds, are of the form that is read
+  formed : (gs : List Refutation) (k : ℕ) → literals gs ≡ take k order → All (IsGrownTree it lemmas) gs → FitsTrees gs → IsOfForm it lemmas (record { lemmas = lemmas; goals = gs })
+  formed gs k first grown fits =
+      let goals : All (IsLiteralOf it.net) order = goals_of_net it below [] order (order_goals it is order ordered) in
+      let lits : All (λ (g : Refutation). IsLiteralOf it.net g.lit) gs =
+      lits_each (IsLiteralOf it.net) gs (subst (All (IsLiteralOf it.net)) (sym first) (All-take (IsLiteralOf it.net) k order goals)) in
+      record {
+        cites = refl;
+        formed = record {
+          few_lemmas = few_lemmas;
+          few_goals = few_goals gs k first;
+          short = All-weaker (IsGrownTree it lemmas) (λ (g : Refutation). length g.steps < 2 ^ 32) (λ g tree. tree.short) gs grown;
+          trees = All-weaker (IsGrownTree it lemmas) (λ (g : Refutation). are_trees 1 g.steps ≡ true) (λ g tree. trees_form it lemmas tree.before g.steps (root g.lit) tree.tree) gs grown;
+        };
+        goals = λ i d h. (
+            let tree = grown i d h in
+            goal_of_net it is below lemmas few_lemmas tree.before tree.few (get_or gs i d) (lits i d h) tree.tree (fits i d h) tree.short);
+      }
+
+  -- all goals are refuted
+  pub proved_all : (g : Progress) → IsProgress it lemmas order budget (length order) g → IsFull it lemmas (record { lemmas = lemmas; goals = refutations g })
+  proved_all g done =
+      let gs = refutations g in
+      let within = done.within in
+      let lits : literals gs ≡ order = done.first ∙ take-length order in
+      record {
+        form = formed gs (length order) done.first (finished_grown it lemmas gs g.nodes g.pivots done.finished (few_goals gs (length order) done.first) (omega arith)) done.fits;
+        order = subst (IsGoalOrder it) (sym lits) ordered;
+        proof = λ rows valid. whole_proof it is lemmas order gs g.nodes g.pivots ordered lits done.finished rows valid;
+      }
+
+  -- the budget is spent
+  pub halted_all : (g : Progress) → IsHalted it lemmas order budget g → IsSpent it lemmas budget (record { lemmas = lemmas; goals = refutations g }) g.nodes g.pivots
+  halted_all g halt =
+      let gs = refutations g in
+      let part = halt.partial in
+      let spent = halt.spent in
+      record {
+        form = formed gs (length gs) part.first (partial_grown it lemmas order gs g.nodes g.pivots part (few_goals gs (length gs) part.first) (omega arith)) halt.fits;
+        order = order;
+        is_order = ordered;
+        partial = part;
+        spent = halt.spent;
+      }
 
 take_none : (order : List Lit) → take 0 order ≡ []
 take_none [] = refl
@@ -300,4 +327,5 @@ started it lemmas order budget g empty no_nodes no_pivots =
           (subst (λ (k : ℕ). AreFinished it lemmas [] k g.pivots) (sym no_nodes) (subst (λ (k : ℕ). AreFinished it lemmas [] 0 k) (sym no_pivots) none));
       first = ap literals gs ∙ sym (take_none order);
       within = omega arith;
+      fits = subst FitsTrees (sym gs) (All-nil (λ (h : Refutation). All FitsStep h.steps));
     }

@@ -2,6 +2,7 @@
 use Rattle.std.proofs.Common.{◌≡◌, ℕ, zero, suc, ◌-◌, Some, slice_get, take, drop, get_or, ◌+◌, ◌≤◌, ◌<◌, List, [], ◌∷◌, ◌++◌, length, map, refl, sym, ◌∙◌, ap, subst}
 use Rattle.std.proofs.Common.{append_assoc, length-append, arith, inl, inr}
 use Rattle.std.proofs.lemmas.List.{append-nil}
+use Rattle.std.proofs.lemmas.List.Elements.{All-nil, All-push}
 use Rattle.std.proofs.Math.Seq.{drop-cons}
 use Rattle.std.specs.List.{remove}
 use Rattle.xm_design.specs.Designed.{Designed}
@@ -14,6 +15,7 @@ use Rattle.xm_proof.specs.Argument.{Open, Step}
 use Rattle.xm_search.specs.Inner.Growing.{AllBegin, IsGrown, stacked}
 use Rattle.xm_proof.specs.Tests.{longer}
 use Rattle.xm_search.specs.Inner.Choosing.{IsChosen}
+use Rattle.xm_search.specs.Inner.Fitting.{FitsStep}
 use Rattle.xm_search.specs.Partial.{ArePaid, IsAtWork, IsPaidTree, IsUndecided, NeedsOne, NeedsSplit, all_nodes, for_pivot, for_split, paths_of, some_kids}
 use Rattle.xm_search.specs.Pivots.{AreWhole, IsRun, IsWholeRun, NeedsPivot, Run, one_cut, total}
 use Rattle.xm_search.specs.Trees.{AreTrees, IsStep, kids, open_at, open_paths, root, step_paths}
@@ -82,6 +84,7 @@ module _ (it : Designed) (lemmas : List Lemma) (before : List Lit) (goal : Lit) 
     ran = λ rest. refl;
     whole = tt;
     begin = (([], refl), tt);
+    fits = All-nil FitsStep;
     node_count = refl;
     pivot_count = refl;
     within = omega arith;
@@ -90,10 +93,10 @@ module _ (it : Designed) (lemmas : List Lemma) (before : List Lit) (goal : Lit) 
   -- a step on the next path
   pub grown : (budget : ℕ) (steps : List Step) (path : List Lit) (paths more : List (List Lit)) (nodes pivots : ℕ) (step : Step) (n after : ℕ) →
       IsGrown it lemmas before goal budget steps (path ∷ paths) nodes pivots → IsStep it lemmas before path step →
-      kids it path step ≡ more → open_at path step ≡ [] → IsWholeRun it lemmas path n → AllBegin goal more →
+      kids it path step ≡ more → open_at path step ≡ [] → IsWholeRun it lemmas path n → AllBegin goal more → FitsStep step →
       after ≡ nodes + length more → after + (pivots + n) ≤ budget →
       IsGrown it lemmas before goal budget (steps ++ step ∷ []) (more ++ paths) after (pivots + n)
-  grown budget steps path paths more nodes pivots step n after g is left shut run begin count fits =
+  grown budget steps path paths more nodes pivots step n after g is left shut run begin small count fits =
       let on : (rest : List Step) → (steps ++ step ∷ []) ++ rest ≡ steps ++ step ∷ rest = λ rest. append_assoc steps (step ∷ []) rest in
       let new : List Run = record { path = path; pivots = n } ∷ [] in
       record {
@@ -109,6 +112,7 @@ module _ (it : Designed) (lemmas : List Lemma) (before : List Lit) (goal : Lit) 
             ∙ ap (λ (l : List (List Lit)). l ++ step_paths it rest (more ++ paths)) (sym (paths_append g.runs new));
         whole = whole_append it lemmas g.runs new g.whole (run, tt);
         begin = begin_append goal more paths begin g.begin.1;
+        fits = All-push FitsStep steps step g.fits small;
         node_count =
             let now = g.node_count in let one = length-append steps (step ∷ []) in let two = length-append more paths in
             omega arith;

@@ -10,5 +10,6 @@ pub mod OfNet
 pub mod Orders
 pub mod Steps
 pub mod Summing
+pub mod TreesOfNet
 pub mod Turning
 pub mod Walks

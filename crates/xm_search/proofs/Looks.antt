@@ -16,6 +16,7 @@ use Rattle.xm_proof.specs.Tests.{find_rule, longer}
 use Rattle.xm_proof.specs.Valid.{Cites, Closes}
 use Rattle.xm_proof.specs.declared.proof.Item.{Item}
 use Rattle.xm_search.specs.Inner.Choosing.{AllAnswered, AllGoOn, GoOn, HaveAlternatives, IsChosen, all_answered, all_have, any_last, is_last, some_last}
+use Rattle.xm_search.specs.Inner.Fitting.{FitsItems}
 use Rattle.xm_search.specs.Inner.Looking.{EndsPath, IsConsistent, any_goal}
 use Rattle.xm_search.specs.Partial.{IsUndecided}
 use Rattle.xm_search.specs.Trees.{HoldsGoal, IsStep, has_alternative, left_by}
@@ -48,19 +49,19 @@ module _ (it : Designed) (lemmas : List Lemma) (before path : List Lit) where
       let same : is.lit ≡ l = cc in
       let met : opposed_to is.lit (slice_get path j) ≡ true = is.met in
       let opposed = ap (λ (o : Option Lit). opposed_to l o) (sym at_j) ∙ ap (λ (x : Lit). opposed_to x (slice_get path j)) (sym same) ∙ met in
-      record { is = ((on_at path i l at_i, (on_at path j m at_j, opposed)), refl); last = refl; shut = refl }
+      record { is = ((on_at path i l at_i, (on_at path j m at_j, opposed)), refl); last = refl; shut = refl; fits = tt }
 
   pub outside_ends : (i : ℕ) (l : Lit) → slice_get path i ≡ Some l → IsClashOn it path (conflict.Outside i) → EndsPath it lemmas before path (Clash l None)
   outside_ends i l at_i is =
       let e : Some is.lit ≡ Some l = sym is.there ∙ at_i in
       let same : is.lit ≡ l = cc in
-      record { is = ((on_at path i l at_i, subst (λ (x : Lit). is_outside it x ≡ true) same is.met), refl); last = refl; shut = refl }
+      record { is = ((on_at path i l at_i, subst (λ (x : Lit). is_outside it x ≡ true) same is.met), refl); last = refl; shut = refl; fits = tt }
 
   pub cite_ends : (k : ℕ) → Cites before path k → EndsPath it lemmas before path (Cite k)
-  cite_ends k is = record { is = (is, refl); last = refl; shut = refl }
+  cite_ends k is = record { is = (is, refl); last = refl; shut = refl; fits = tt }
 
-  pub sum_ends : (items : List Item) → Closes it lemmas path items → EndsPath it lemmas before path (Sum items)
-  sum_ends items is = record { is = (is, refl); last = refl; shut = refl }
+  pub sum_ends : (items : List Item) → Closes it lemmas path items → FitsItems items → EndsPath it lemmas before path (Sum items)
+  sum_ends items is fits = record { is = (is, refl); last = refl; shut = refl; fits = fits }
 
   pub rule_ends : (on : Lit) (rule : Inference) (kids : ℕ) → IsChosen it path on rule → rule.alternatives ≡ [] → length rule.alternatives ≡ kids →
       IsConsistent it path → (HoldsGoal before path → ⊥) → EndsPath it lemmas before path (Split rule.name on rule.via kids)
@@ -78,6 +79,7 @@ module _ (it : Designed) (lemmas : List Lemma) (before path : List Lit) where
         );
         last = left;
         shut = refl;
+        fits = tt;
       }
 
   pub splits : (on : Lit) (rule : Inference) (kids : ℕ) → IsChosen it path on rule → length rule.alternatives ≡ kids → IsUndecided it before path →

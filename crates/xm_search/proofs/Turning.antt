@@ -1,7 +1,8 @@
 -- One step of the search of a goal.
-use Rattle.std.proofs.Common.{◌≡◌, ℕ, suc, ◌+◌, ◌≤◌, ◌<◌, List, [], ◌∷◌, ◌++◌, length, map, refl, sym, ◌∙◌, ap, subst, length-append, arith, inl, true}
+use Rattle.std.proofs.Common.{◌≡◌, ℕ, suc, ◌+◌, ◌≤◌, ◌<◌, List, [], ◌∷◌, ◌++◌, length, map, refl, sym, ◌∙◌, ap, subst, length-append, arith, inl, true, All}
 use Rattle.std.proofs.lemmas.Bool.{or_left}
 use Rattle.std.proofs.lemmas.List.{length-map}
+use Rattle.std.proofs.lemmas.List.Elements.{All-append, All-map, All-push}
 use Rattle.xm_design.specs.Designed.{Designed}
 use Rattle.xm_flow.specs.ValidLemma.{Lemma}
 use Rattle.xm_lits.specs.Inference.{inference_of}
@@ -16,6 +17,7 @@ use Rattle.xm_search.proofs.Growing.{ended, grown, halted_by_pivot, halted_by_sp
 use Rattle.xm_search.proofs.Looks.{same_lit, splits}
 use Rattle.xm_search.specs.Candidate.{IsCandidate}
 use Rattle.xm_search.specs.Inner.Choosing.{IsChoice}
+use Rattle.xm_search.specs.Inner.Fitting.{FitsStep}
 use Rattle.xm_search.specs.Inner.Goals.{IsGoalFound, IsTurned, SplitsOrStops, StopsAs}
 use Rattle.xm_search.specs.Inner.Growing.{AllBegin, BeginsWith, Grows, IsGrown, IsUnderWay, Splits, pending, stacked, steps_of}
 use Rattle.xm_search.specs.Inner.Looking.{EndsPath, IsCut, IsPoint}
@@ -59,7 +61,7 @@ module _ (it : Designed) (lemmas : List Lemma) (before : List Lit) (goal : Lit) 
     pub closed_on : (new : Growth) (step : Step) (n : ℕ) → EndsPath it lemmas before path step → IsWholeRun it lemmas path n → n ≤ left →
         Grows old step [] 0 n new → IsTurned it lemmas before goal budget (length old.done.items) (turned.On new)
     closed_on new step n ends run within grows =
-        let made = grown it lemmas before goal budget (steps_of old) path (pending old) [] old.nodes old.pivots step n (old.nodes + 0) g ends.is ends.last ends.shut run tt refl (omega arith) in (
+        let made = grown it lemmas before goal budget (steps_of old) path (pending old) [] old.nodes old.pivots step n (old.nodes + 0) g ends.is ends.last ends.shut run tt ends.fits refl (omega arith) in (
           moved (steps_of old ++ step ∷ []) (steps_of new) (pending old) (pending new) (old.nodes + 0) new.nodes (old.pivots + n) new.pivots grows.steps grows.paths grows.node_count grows.pivot_count made,
           one_more_done old new step grows.steps,
         )
@@ -76,10 +78,16 @@ module _ (it : Designed) (lemmas : List Lemma) (before : List Lit) (goal : Lit) 
         let out = ap (left_by path) choice.found in
         let size : length more ≡ length rule.alternatives = length-map rule.alternatives (λ (a : List Lit). path ++ a) in
         let made = grown it lemmas before goal budget (steps_of old) path (pending old) more old.nodes old.pivots step 0 (old.nodes + kids) g is out refl (inl refl)
-        (longer_begin goal path rule.alternatives g.begin.0) (omega arith) (omega arith) in (
+        (longer_begin goal path rule.alternatives g.begin.0) tt (omega arith) (omega arith) in (
           moved (steps_of old ++ step ∷ []) (steps_of new) (more ++ pending old) (pending new) (old.nodes + kids) new.nodes (old.pivots + 0) new.pivots grows.steps grows.paths grows.node_count grows.pivot_count made,
           one_more_done old new step grows.steps,
         )
+
+    -- the open leaves add up nothing
+    stopped_fits : All FitsStep ((steps_of old ++ Open ∷ []) ++ map (λ _. Open) old.leaves.items)
+    stopped_fits =
+        All-append FitsStep (steps_of old ++ Open ∷ []) (map (λ _. Open) old.leaves.items) (All-push FitsStep (steps_of old) Open g.fits tt)
+        (All-map FitsStep (λ _. Open) old.leaves.items (λ i d h. tt))
 
     stops_as : (tree : ListView Node) (nodes pivots n p m k : ℕ) → map step_of tree.items ≡ (steps_of old ++ Open ∷ []) ++ map (λ _. Open) old.leaves.items →
         nodes ≡ m → pivots ≡ k → m + k ≡ budget →
@@ -90,6 +98,7 @@ module _ (it : Designed) (lemmas : List Lemma) (before : List Lit) (goal : Lit) 
           (subst (λ (x : ℕ). IsAtWork it lemmas before (record { lit = goal; steps = steps_of old ++ Open ∷ opens (pending old) }) x pivots) (sym is_m)
           (subst (λ (x : ℕ). IsAtWork it lemmas before (record { lit = goal; steps = steps_of old ++ Open ∷ opens (pending old) }) m x) (sym is_k) work)),
       omega arith,
+      subst (All FitsStep) (sym steps) stopped_fits,
     )
 
     pub cut_on : (f : GoalFound) → IsCut it lemmas before path left → StopsAs old 0 left f → IsGoalFound it lemmas before goal budget f
@@ -132,4 +141,4 @@ module _ (it : Designed) (lemmas : List Lemma) (before : List Lit) (goal : Lit) 
   pub ended_on : (g : Growth) → length g.leaves.items ≡ 0 → IsUnderWay it lemmas before goal budget g → IsGoalFound it lemmas before goal budget (found.Tree g.done g.nodes g.pivots)
   ended_on g none grown =
       let empty : pending g ≡ [] = ap (λ (l : List (ListView Lit)). stacked l []) (nothing_in g.leaves.items none) in
-      (ended it lemmas before goal budget (steps_of g) g.nodes g.pivots (subst (λ (l : List (List Lit)). Stands (steps_of g) l g.nodes g.pivots) empty grown), grown.within)
+      (ended it lemmas before goal budget (steps_of g) g.nodes g.pivots (subst (λ (l : List (List Lit)). Stands (steps_of g) l g.nodes g.pivots) empty grown), grown.within, grown.fits)

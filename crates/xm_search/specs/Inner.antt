@@ -1,6 +1,6 @@
 -- What private clauses cite, and no public one.
 pub mod Choosing
-pub mod Formed
+pub mod Fitting
 pub mod Goals
 pub mod Ground
 pub mod Growing

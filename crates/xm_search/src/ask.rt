@@ -8,6 +8,7 @@ ghost use Rattle.xm_lits.specs.declared.literal.Lit.{Lit as Literal};
 ghost use Rattle.xm_proof.specs.Tests.{queue_columns};
 ghost use Rattle.xm_proof.specs.Valid.{Closes};
 ghost use Rattle.xm_search.specs.Constraints.{constraints};
+ghost use Rattle.xm_search.specs.Inner.Fitting.{FitsAnswer, FitsItems};
 ghost use Rattle.xm_search.specs.Inner.Named.{AreNamed, AreShared};
 ghost use Rattle.xm_search.specs.Inner.Taken.{ClosesBy, Says, all_taken, lows_taken, taken};
 
@@ -131,6 +132,7 @@ fn answer_of(
     ensures says { IfOk result (Says bounds.now.cons.items (length pairs.now) left) }
     ensures closes { (lemmas : Items Lemma) (path : Items Literal) → AreNamed design.now lemmas path bounds.now
         → IfOk result (ClosesBy design.now lemmas path) }
+    ensures fits { IfOk result FitsAnswer }
 {
     design.is_designed();
     if bounds.cons.len() > MOST_CONSTRAINTS {
@@ -181,6 +183,7 @@ pub fn ask(
         → IfOk result (Says (constraints design.now lemmas path.now) (length pairs.now) left) }
     ensures closes { (lemmas : Items Lemma) → AreShared design.now lemmas shared.now
         → IfOk result (ClosesBy design.now lemmas path.now) }
+    ensures fits { IfOk result FitsAnswer }
 {
     let mut bounds = no_bounds(alloc);
     push_all(alloc, &mut bounds, shared)?;
@@ -200,8 +203,9 @@ pub fn near_sum(
     requires few { length pairs.now < 1048576 }
     requires pairs { pairs.now ≡ queue_columns design.now }
     requires shared { (lemmas : Items Lemma) × AreShared design.now lemmas shared.now }
-    ensures { (lemmas : Items Lemma) → AreShared design.now lemmas shared.now
+    ensures closes { (lemmas : Items Lemma) → AreShared design.now lemmas shared.now
         → IfOk result (λ found. IfSome found (λ items. Closes design.now lemmas path.now items.items)) }
+    ensures fits { IfOk result (λ found. IfSome found (λ items. FitsItems items.items)) }
 {
     let mut bounds = no_bounds(alloc);
     push_literals(alloc, &mut bounds, design, pairs, path)?;

@@ -159,13 +159,11 @@ fn best_pick(alloc: Global, design: &Design, path: &[Lit]) -> Result<Option<Pick
 
 /// The rule that is picked.
 fn take_rule(alloc: Global, design: &Design, pick: Pick) -> Result<Chosen, OutOfMemory>
+    requires { pick.place < length (rules_of design.now pick.on) }
     ensures on { IfOk result (λ c. c.on ≡ pick.on) }
     ensures at { IfOk result (λ c. slice_get (rules_of design.now pick.on) pick.place ≡ Some (inference_of c.rule)) }
 {
     let mut rules = rules(alloc, design, &pick.on)?;
-    if pick.place as usize >= rules.len() {
-        return Err(OutOfMemory);
-    }
     let rule = rules.remove(pick.place);
     Ok(Chosen { on: pick.on, rule })
 }

@@ -5,7 +5,6 @@ mod ask;
 mod bounds;
 mod choosing;
 mod ends;
-mod form;
 mod found;
 mod goal;
 mod ground;

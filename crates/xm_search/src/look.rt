@@ -6,6 +6,7 @@ ghost use Rattle.xm_lits.specs.declared.literal.Lit.{Lit as Literal};
 ghost use Rattle.xm_proof.specs.Argument.{step_of};
 ghost use Rattle.xm_proof.specs.Valid.{Closes};
 ghost use Rattle.xm_search.specs.Inner.Choosing.{AllAnswered, split_by};
+ghost use Rattle.xm_search.specs.Inner.Fitting.{FitsItems};
 ghost use Rattle.xm_search.specs.Inner.Ground.{IsGround, lemmas_of};
 ghost use Rattle.xm_search.specs.Inner.Looking.{EndsPath, IsSeen};
 ghost use Rattle.xm_search.specs.Inner.Places.{AreEarliest};
@@ -60,8 +61,9 @@ fn quick_sum(
     path: &[Lit],
 ) -> Result<Option<List<Item>>, OutOfMemory>
     requires { IsGround design.now ground.now }
-    ensures { IfOk result (λ found. IfSome found (λ items.
+    ensures closes { IfOk result (λ found. IfSome found (λ items.
         Closes design.now (lemmas_of ground.now) path.now items.items)) }
+    ensures fits { IfOk result (λ found. IfSome found (λ items. FitsItems items.items)) }
 {
     if !ends_with_queue(path) {
         return Ok(None);

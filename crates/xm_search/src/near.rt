@@ -1,6 +1,6 @@
 //! The constraints near some.
 
-ghost use Rattle.std.specs.Prelude.{◌≡◌, ◌++◌, [], ◌∷◌, List as Items, OnOk, slice_index_or};
+ghost use Rattle.std.specs.Prelude.{◌≡◌, ◌++◌, ◌<◌, [], ◌∷◌, List as Items, OnOk, length, slice_index_or};
 ghost use Rattle.xm_lp.specs.declared.decision.Con.{Con as Constraint};
 ghost use Rattle.xm_design.specs.Designed.{Designed};
 ghost use Rattle.xm_flow.specs.ValidLemma.{Lemma};
@@ -94,20 +94,20 @@ fn push_shared(
     shared: &Bounds,
     i: usize,
 ) -> Result<(), OutOfMemory>
+    requires here { i < length shared.now.cons.items }
+    requires count { length shared.now.items.items ≡ length shared.now.cons.items }
     ensures cons { (none : Constraint) → OnOk result (bounds.new.cons.items
         ≡ bounds.old.cons.items ++ slice_index_or shared.now.cons.items i none ∷ []) }
     ensures named { (it : Designed) (lemmas : Items Lemma) (path : Items Literal) → AreNamed it lemmas path shared.now
         → AreNamed it lemmas path bounds.old → OnOk result (AreNamed it lemmas path bounds.new) }
 {
     let (cons, items) = (shared.cons.as_slice(), shared.items.as_slice());
-    if i >= cons.len() || i >= items.len() {
-        return Err(OutOfMemory);
-    }
     push_copy(alloc, bounds, &cons[i], items[i])
 }
 
 /// Appends all shared constraints.
 pub fn push_all(alloc: Global, bounds: &mut Bounds, shared: &Bounds) -> Result<(), OutOfMemory>
+    requires { length shared.now.items.items ≡ length shared.now.cons.items }
     ensures cons { OnOk result (bounds.new.cons.items ≡ bounds.old.cons.items ++ shared.now.cons.items) }
     ensures named { (it : Designed) (lemmas : Items Lemma) (path : Items Literal) → AreNamed it lemmas path shared.now
         → AreNamed it lemmas path bounds.old → OnOk result (AreNamed it lemmas path bounds.new) }
@@ -125,6 +125,7 @@ pub fn push_near(
     shared: &Bounds,
     places: &[List<u32>],
 ) -> Result<(), OutOfMemory>
+    requires { length shared.now.items.items ≡ length shared.now.cons.items }
     ensures { (it : Designed) (lemmas : Items Lemma) (path : Items Literal) → AreNamed it lemmas path shared.now
         → AreNamed it lemmas path bounds.old → OnOk result (AreNamed it lemmas path bounds.new) }
 {
@@ -135,7 +136,10 @@ pub fn push_near(
         bounds.cons.as_slice(),
     )?;
     for row in picked.as_slice() {
-        push_shared(alloc, bounds, shared, *row as usize)?;
+        let i = *row as usize;
+        if i < shared.cons.len() {
+            push_shared(alloc, bounds, shared, i)?;
+        }
     }
     Ok(())
 }

@@ -7,13 +7,11 @@ ghost use Rattle.xm_lits.specs.declared.literal.Lit.{Lit as Literal};
 ghost use Rattle.xm_persist.specs.Rights.{AllGranted};
 ghost use Rattle.xm_proof.specs.declared.proof.Node.TheVariants as node;
 ghost use Rattle.xm_search.specs.GoalOrder.{IsGoalOrder};
-ghost use Rattle.xm_search.specs.Inner.Formed.{IsGoodGoal};
 ghost use Rattle.xm_search.specs.Inner.Ground.{IsGround, lemmas_of};
 ghost use Rattle.xm_search.specs.Inner.Places.{AreEarliest};
 ghost use Rattle.xm_search.specs.Inner.Progress.{Adds, FitsFound, IsHalted, IsNext, IsProgress, TakesIn};
 ghost use Rattle.xm_search.specs.Searched.{IsFault, IsFound};
 
-use crate::form::are_goals;
 use crate::found::{Candidate, Found, SearchFault};
 use crate::goal::{GoalFound, search_goal};
 use crate::ground::{Ground, ground_of};
@@ -127,51 +125,40 @@ fn search_next(
     }
 }
 
-/// The proof of these goals. That what it names is of the net, and its numbers are within bounds, is tested here rather
-/// than carried through the search; a proof that failed the test, of which none is known, would be answered as want of
-/// memory.
-fn proof_of(design: &Design, ground: Ground, goals: List<Goal>) -> Result<Proof, OutOfMemory>
-    ensures lemmas { IfOk result (λ p. p.lemmas ≡ ground.lemmas) }
-    ensures goals { IfOk result (λ p. p.goals ≡ goals) }
-    ensures few { IfOk result (λ p. length p.goals.items < 2 ^ 32) }
-    ensures few_lemmas { IfOk result (λ p. length p.lemmas.items < 2 ^ 32) }
-    ensures good { IfOk result (λ p. All (IsGoodGoal design.now.net) p.goals.items) }
-{
-    let most = u32::MAX as usize;
-    if goals.len() > most || ground.lemmas.len() > most || !are_goals(design, goals.as_slice()) {
-        return Err(OutOfMemory);
-    }
-    let Ground { lemmas, .. } = ground;
-    Ok(Proof { lemmas, goals })
-}
-
 /// All goals are refuted.
-fn proved(design: &Design, ground: Ground, progress: Progress) -> Result<Found, OutOfMemory>
-    ensures { (order : Items Literal) (budget : ℕ) → IsGoalOrder design.now order
-        → IsProgress design.now (lemmas_of ground) order budget (length order) progress
-        → IfOk result (IsFound design.now (lemmas_of ground) budget) }
+fn proved(design: &Design, ground: Ground, progress: Progress) -> Found
+    requires { IsGround design.now ground }
+    ensures { (order : Items Literal) (budget : ℕ) → IsGoalOrder design.now order → length order < 4294967296
+        → budget ≤ 10000000 → IsProgress design.now (lemmas_of ground) order budget (length order) progress
+        → IsFound design.now (lemmas_of ground) budget result }
 {
     design.is_designed();
+    design.colours();
+    let Ground { lemmas, .. } = ground;
     let Progress { goals, .. } = progress;
-    Ok(Found::Proved(proof_of(design, ground, goals)?))
+    Found::Proved(Proof { lemmas, goals })
 }
 
 /// The budget is spent.
-fn halted(design: &Design, ground: Ground, progress: Progress) -> Result<Found, OutOfMemory>
-    ensures { (order : Items Literal) (budget : ℕ) → IsGoalOrder design.now order
-        → IsHalted design.now (lemmas_of ground) order budget progress
-        → IfOk result (IsFound design.now (lemmas_of ground) budget) }
+fn halted(design: &Design, ground: Ground, progress: Progress) -> Found
+    requires { IsGround design.now ground }
+    ensures { (order : Items Literal) (budget : ℕ) → IsGoalOrder design.now order → length order < 4294967296
+        → budget ≤ 10000000 → IsHalted design.now (lemmas_of ground) order budget progress
+        → IsFound design.now (lemmas_of ground) budget result }
 {
+    design.is_designed();
+    design.colours();
+    let Ground { lemmas, .. } = ground;
     let Progress {
         goals,
         nodes,
         pivots,
     } = progress;
-    Ok(Found::Spent {
-        partial: proof_of(design, ground, goals)?,
+    Found::Spent {
+        partial: Proof { lemmas, goals },
         nodes,
         pivots,
-    })
+    }
 }
 
 /// Searches the goals in order.
@@ -186,7 +173,8 @@ fn search_all(
     requires few { length order.now < 4294967296 }
     requires earliest { AreEarliest order.now ground.earliest.items }
     requires order { IsGoalOrder design.now order.now }
-    requires budget { 1 ≤ budget }
+    requires low { 1 ≤ budget }
+    requires high { budget ≤ 10000000 }
     ensures found { IfOk result (IsFound design.now (lemmas_of ground) budget) }
     ensures fault { IfErr result (IsFault design.now (lemmas_of ground)) }
 {
@@ -199,10 +187,10 @@ fn search_all(
         progress = match search_next(alloc, design, &ground, order, place, budget, progress)? {
             Next::On(more) => more,
             Next::Open(candidate) => return Ok(Found::Open(candidate)),
-            Next::Spent(more) => return Ok(halted(design, ground, more)?),
+            Next::Spent(more) => return Ok(halted(design, ground, more)),
         };
     }
-    Ok(proved(design, ground, progress)?)
+    Ok(proved(design, ground, progress))
 }
 
 /// Searches a proof that no channel jams, with these lemmas, in at most so many nodes and pivots.

@@ -1,11 +1,12 @@
 -- What is found for one goal.
-use Rattle.std.specs.Prelude.{◌≡◌, ℕ, suc, ◌+◌, ◌<◌, ◌≤◌, List, [], ◌∷◌, ◌++◌, length, map}
+use Rattle.std.specs.Prelude.{◌≡◌, ℕ, suc, ◌+◌, ◌<◌, ◌≤◌, List, [], ◌∷◌, ◌++◌, All, length, map}
 use Rattle.xm_design.specs.Designed.{Designed}
 use Rattle.xm_flow.specs.ValidLemma.{Lemma}
 use Rattle.xm_lits.specs.declared.literal.Lit.{Lit}
 use Rattle.xm_proof.specs.Argument.{Open, Refutation, step_of}
 use Rattle.xm_proof.specs.declared.proof.Node.{Node}
 use Rattle.xm_search.specs.Candidate.{IsCandidate}
+use Rattle.xm_search.specs.Inner.Fitting.{FitsStep}
 use Rattle.xm_search.specs.Inner.Growing.{BeginsWith, IsUnderWay, Splits, steps_of}
 use Rattle.xm_search.specs.Partial.{IsAtWork, IsPaidTree}
 use Rattle.xm_search.specs.Pivots.{OverflowsOn}
@@ -24,15 +25,18 @@ use Rattle.xm_search.specs.declared.look.Look.TheVariants as look
 abbrev pub tree_for : Lit → List Node → Refutation
 tree_for goal nodes = record { lit = goal; steps = map step_of nodes }
 
--- a tree for the goal; or a candidate, which no earlier goal is on; or a tree at work in as much as the budget allows
+-- a tree for the goal; or a candidate, which no earlier goal is on; or a tree at work in as much as the budget allows;
+-- a tree's numbers are within bounds
 abbrev pub IsGoalFound : Designed → List Lemma → List Lit → Lit → ℕ → GoalFound → Type 0
 IsGoalFound it lemmas before goal budget (found.Tree tree nodes pivots) =
     IsPaidTree it lemmas before (tree_for goal tree.items) nodes pivots × (nodes + pivots ≤ budget)
+    × All FitsStep (map step_of tree.items)
 IsGoalFound it lemmas before goal budget (found.Open c) =
     (c.goal ≡ goal) × IsCandidate it lemmas goal c.lits.items c.denominator c.counts.items
     × (HoldsGoal before c.lits.items → ⊥)
 IsGoalFound it lemmas before goal budget (found.Spent tree nodes pivots) =
     IsAtWork it lemmas before (tree_for goal tree.items) nodes pivots × (nodes + pivots ≡ budget)
+    × All FitsStep (map step_of tree.items)
 
 -- one step more, or something is found
 abbrev pub IsTurned : Designed → List Lemma → List Lit → Lit → ℕ → ℕ → Turned → Type 0

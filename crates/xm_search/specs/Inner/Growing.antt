@@ -1,5 +1,5 @@
 -- A tree that grows: its first steps, and the paths of the open leaves behind them.
-use Rattle.std.specs.Prelude.{◌≡◌, ℕ, ◌+◌, ◌≤◌, List, [], ◌∷◌, ◌++◌, length, map}
+use Rattle.std.specs.Prelude.{◌≡◌, ℕ, ◌+◌, ◌≤◌, List, [], ◌∷◌, ◌++◌, All, length, map}
 use Rattle.xm_design.specs.Designed.{Designed}
 use Rattle.xm_flow.specs.ValidLemma.{Lemma}
 use Rattle.xm_lits.specs.declared.literal.Lit.{Lit}
@@ -8,6 +8,7 @@ use Rattle.xm_model.specs.ListView.{ListView}
 use Rattle.xm_proof.specs.Argument.{Step, step_of}
 use Rattle.xm_proof.specs.Tests.{longer}
 use Rattle.xm_search.specs.Inner.Choosing.{split_by}
+use Rattle.xm_search.specs.Inner.Fitting.{FitsStep}
 use Rattle.xm_search.specs.Partial.{paths_of}
 use Rattle.xm_search.specs.Pivots.{AreWhole, Run, total}
 use Rattle.xm_search.specs.Trees.{AreTrees, open_paths, root, step_paths}
@@ -41,6 +42,7 @@ pub record IsGrown (it : Designed) (lemmas : List Lemma) (before : List Lit) (go
   pub ran : (rest : List Step) → step_paths it (steps ++ rest) (root goal) ≡ paths_of runs ++ step_paths it rest paths
   pub whole : AreWhole it lemmas runs
   pub begin : AllBegin goal paths
+  pub fits : All FitsStep steps
   pub node_count : nodes ≡ length steps + length paths
   pub pivot_count : pivots ≡ total runs
   pub within : nodes + pivots ≤ budget

@@ -10,6 +10,7 @@ use Rattle.xm_proof.specs.Argument.{Step, step_of}
 use Rattle.xm_proof.specs.Tests.{queue_columns}
 use Rattle.xm_search.specs.Constraints.{constraints}
 use Rattle.xm_search.specs.Inner.Choosing.{AllAnswered, IsChoice}
+use Rattle.xm_search.specs.Inner.Fitting.{FitsStep}
 use Rattle.xm_search.specs.Partial.{IsUndecided}
 use Rattle.xm_search.specs.Pivots.{IsWholeRun, NeedsPivot, OverflowsOn}
 use Rattle.xm_search.specs.Trees.{HoldsGoal, IsStep, kids, open_at}
@@ -25,11 +26,12 @@ abbrev pub any_goal : List Lit → List Lit → Bool
 any_goal path [] = false
 any_goal path (g ∷ gs) = is_on_path path g || any_goal path gs
 
--- the step ends the path
+-- the step ends the path, and its numbers are within bounds
 pub record EndsPath (it : Designed) (lemmas : List Lemma) (before path : List Lit) (step : Step) : Type 0 where
   pub is : IsStep it lemmas before path step
   pub last : kids it path step ≡ []
   pub shut : open_at path step ≡ []
+  pub fits : FitsStep step
 
 -- all but the goal that makes the path a candidate
 pub record IsPoint (it : Designed) (lemmas : List Lemma) (before path : List Lit) (denominator : ℤ) (counts : List ℤ) :

@@ -1,10 +1,11 @@
 -- How far the search of all goals has come.
-use Rattle.std.specs.Prelude.{◌≡◌, ℕ, ◌+◌, ◌<◌, ◌≤◌, ◌^◌, List, [], ◌∷◌, ◌++◌, map, take}
+use Rattle.std.specs.Prelude.{◌≡◌, ℕ, ◌+◌, ◌<◌, ◌≤◌, ◌^◌, List, [], ◌∷◌, ◌++◌, All, map, take}
 use Rattle.xm_design.specs.Designed.{Designed}
 use Rattle.xm_flow.specs.ValidLemma.{Lemma}
 use Rattle.xm_lits.specs.declared.literal.Lit.{Lit}
 use Rattle.xm_proof.specs.Argument.{Refutation, literals, refutation_of}
 use Rattle.xm_proof.specs.declared.proof.Node.{Node}
+use Rattle.xm_search.specs.Inner.Fitting.{FitsStep}
 use Rattle.xm_search.specs.Inner.Goals.{tree_for}
 use Rattle.xm_search.specs.Partial.{AreFinished, IsPartial}
 use Rattle.xm_search.specs.Searched.{IsOpen}
@@ -17,12 +18,17 @@ use Rattle.xm_search.specs.declared.searching.Progress.{Progress}
 abbrev pub refutations : Progress → List Refutation
 refutations g = map refutation_of g.goals.items
 
+-- the numbers of all trees are within bounds
+abbrev pub FitsTrees : List Refutation → Type 0
+FitsTrees gs = All (λ g. All FitsStep g.steps) gs
+
 -- the goals below this place are refuted
 pub record IsProgress (it : Designed) (lemmas : List Lemma) (order : List Lit) (budget place : ℕ) (g : Progress) :
     Type 0 where
   pub finished : AreFinished it lemmas (refutations g) g.nodes g.pivots
   pub first : literals (refutations g) ≡ take place order
   pub within : g.nodes + g.pivots ≤ budget
+  pub fits : FitsTrees (refutations g)
 
 -- the old one with a tree for one more goal
 pub record Adds (old : Progress) (lit : Lit) (tree : List Node) (nodes pivots : ℕ) (new : Progress) : Type 0 where
@@ -47,6 +53,7 @@ TakesIn old lit _ _ = ⊥
 pub record IsHalted (it : Designed) (lemmas : List Lemma) (order : List Lit) (budget : ℕ) (g : Progress) : Type 0 where
   pub partial : IsPartial it lemmas order (refutations g) g.nodes g.pivots
   pub spent : g.nodes + g.pivots ≡ budget
+  pub fits : FitsTrees (refutations g)
 
 abbrev pub IsNext : Designed → List Lemma → List Lit → ℕ → ℕ → Next → Type 0
 IsNext it lemmas order budget place (next.On g) = IsProgress it lemmas order budget (place + 1) g

@@ -1,12 +1,13 @@
-use Rattle.std.proofs.Common.{ℕ, ℤ, ◌++◌, List, ap, sym, subst, ◌∙◌}
+use Rattle.std.proofs.Common.{ℕ, ℤ, ◌++◌, List, ap, arith, sym, subst, ◌∙◌}
 use Rattle.xm_lp.specs.Right.{IsRight, Refutes}
 use Rattle.xm_lp.specs.Rule.{Follows, HasMultipliers}
 use Rattle.xm_lp.specs.declared.decision.Decision.{Decision}
 use Rattle.std.specs.Prelude.{Ok, length}
 use Rattle.xm_proof.specs.Valid.{Closes}
 use Rattle.xm_proof.specs.declared.proof.Item.{Item}
+use Rattle.xm_search.specs.Inner.Fitting.{FitsItems}
 use Rattle.xm_search.specs.Inner.Taken.{all_taken, lows_taken}
-use Rattle.xm_search.proofs.Closing.{closes}
+use Rattle.xm_search.proofs.Closing.{closes, items_fit}
 use Rattle.xm_search.proofs.Naming.{Pair, all_below, names_count}
 use Rattle.xm_search.proofs.ask.answer_of.Goals as goal
 
@@ -34,3 +35,17 @@ returns-in_ok-items-in-Ok-Infeasible-clause-closes c = λ lemmas path are.
     ∙ ap (λ (l : List ℤ). all_taken c.args.bounds.now.items.items c.in-Ok-Infeasible.multipliers.items ++ lows_taken c.args.pairs.now l) c.as_slice.ensures
     ∙ ap (λ (l : List Pair). all_taken c.args.bounds.now.items.items c.in-Ok-Infeasible.multipliers.items ++ lows_taken l c.in-Ok-Infeasible.lows.items) c.requires.pairs in
     subst (λ (l : List Item). Closes it lemmas path l) (sym (c.in_ok-items-in-Ok-Infeasible.ensures ∙ same)) made
+
+pub returns-in_ok-items-in-Ok-Infeasible-clause-fits : goal.returns-in_ok-items-in-Ok-Infeasible-clause-fits
+returns-in_ok-items-in-Ok-Infeasible-clause-fits c =
+    let cons = c.args.bounds.now.cons.items in
+    let pairs = c.args.pairs.now in
+    let names = names_count c.args.design.now c.requires.named.0 c.requires.named.1.0 c.args.bounds.now c.requires.named.1.1 in
+    let right = subst (λ (d : Decision). IsRight cons (length pairs) (Ok d)) c.in-Ok-Infeasible.field-0-is c.in-Ok-Infeasible.ensures.right in
+    let rule = subst (λ (d : Decision). Follows cons (length pairs) c.args.left (Ok d)) c.in-Ok-Infeasible.field-0-is c.in-Ok-Infeasible.ensures.rule in
+    let same = ap (λ (l : List Item). all_taken l c.as_slice-times.result.now ++ lows_taken pairs c.as_slice.result.now) c.as_slice-names.ensures
+    ∙ ap (λ (l : List ℤ). all_taken c.args.bounds.now.items.items l ++ lows_taken pairs c.as_slice.result.now) c.as_slice-times.ensures
+    ∙ ap (λ (l : List ℤ). all_taken c.args.bounds.now.items.items c.in-Ok-Infeasible.multipliers.items ++ lows_taken pairs l) c.as_slice.ensures in
+    subst FitsItems (sym (c.in_ok-items-in-Ok-Infeasible.ensures ∙ same))
+    (items_fit c.args.bounds.now.items.items cons pairs c.in-Ok-Infeasible.multipliers.items c.in-Ok-Infeasible.lows.items c.args.left c.in-Ok-Infeasible.pivots
+    names (omega arith) c.requires.few right rule)

@@ -3,7 +3,7 @@ use Rattle.std.specs.Prelude.{IfOk}
 use Rattle.xm_lp.specs.declared.decision.Con.{Con}
 use Rattle.xm_search.specs.Constraints.{said}
 use Rattle.xm_search.specs.Inner.Taken.{Says}
-use Rattle.xm_search.proofs.Naming.{none_named}
+use Rattle.xm_search.proofs.Naming.{names_count, none_named}
 use Rattle.xm_search.proofs.ask.ask.Goals as goal
 
 pub answer_of-requires-clause-named : goal.answer_of-requires-clause-named
@@ -13,6 +13,10 @@ answer_of-requires-clause-named c =
     let lemmas = c.requires.shared.0 in
     let none = none_named it lemmas path c.no_bounds-bounds.result c.no_bounds-bounds.ensures.cons c.no_bounds-bounds.ensures.items in
     (lemmas, (path, c.in_ok-push_literals.ensures.named lemmas (c.in_ok-push_all.ensures.named it lemmas path (c.requires.shared.1.named path) none)))
+
+pub push_all-requires : goal.push_all-requires
+push_all-requires c =
+    names_count c.args.design.now c.requires.shared.0 c.args.path.now c.args.shared.now (c.requires.shared.1.named c.args.path.now)
 
 pub returns-clause-says : goal.returns-clause-says
 returns-clause-says c = λ lemmas shared.

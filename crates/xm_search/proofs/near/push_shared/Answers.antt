@@ -1,4 +1,4 @@
-use Rattle.std.proofs.Common.{◌<◌, List, get_or, length, pos, subst, sym, ◌∙◌, ap}
+use Rattle.std.proofs.Common.{List, get_or, pos, arith, subst, sym, ◌∙◌, ap}
 use Rattle.xm_lp.specs.declared.decision.Con.{Con}
 use Rattle.xm_proof.specs.declared.proof.Item.{Item}
 use Rattle.xm_proof.specs.declared.proof.Item.TheVariants as item
@@ -12,8 +12,8 @@ returns-clause-named c = λ it lemmas path from are.
     let i = c.args.i in
     let none = item.Lemma 0 (pos 0) in
     let con = c.index-cons-i.result in
-    let within = subst (λ (l : List Item). i < length l) c.as_slice-items.ensures c.if-i-items.false in
-    let below = subst (λ (l : List Con). i < length l) c.as_slice-cons.ensures c.if-i-cons.false in
-    let at = named_at it lemmas path b i none con within below from in
+    let here = c.requires.here in
+    let count = c.requires.count in
+    let at = named_at it lemmas path b i none con (omega arith) here from in
     let there = subst (λ (x : Con). Names it lemmas path (get_or b.items.items i none) x) (sym (c.index-cons-i.is ∙ ap (λ (l : List Con). get_or l i con) c.as_slice-cons.ensures)) at in
     c.push_copy.ensures.named it lemmas path (subst (λ (l : List Item). Names it lemmas path (get_or l i none) con) (sym c.as_slice-items.ensures) there) are

@@ -1,13 +1,7 @@
-use Rattle.std.proofs.Common.{ap, map}
-use Rattle.xm_flow.specs.ValidLemma.{lemma_of}
-use Rattle.xm_flow.specs.declared.invariant.Invariant.{Invariant}
-use Rattle.xm_model.specs.ListView.{ListView}
 use Rattle.xm_search.proofs.Finishing.{proved_all}
 use Rattle.xm_search.specs.Inner.Ground.{lemmas_of}
 use Rattle.xm_search.proofs.searching.proved.Goals as goal
 
 pub returns : goal.returns
-returns c = λ order budget ordered done.
-    let e = c.in_ok-proof_of.ensures in
-    proved_all c.args.design.now c.is_designed.ensures (lemmas_of c.args.ground) order budget c.args.progress c.in_ok-proof_of.field-0 ordered done
-    (ap (λ (l : ListView Invariant). map lemma_of l.items) e.lemmas) e.goals e.few_lemmas e.few e.good
+returns c = λ order budget ordered few small done.
+    proved_all c.args.design.now c.is_designed.ensures c.colours.ensures.below (lemmas_of c.args.ground) order c.requires.few_lemmas ordered few budget small c.args.progress done

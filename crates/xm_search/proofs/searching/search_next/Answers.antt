@@ -5,7 +5,7 @@ use Rattle.xm_lits.specs.declared.literal.Lit.TheVariants.{Stuck}
 use Rattle.xm_proof.specs.Argument.{step_of}
 use Rattle.std.proofs.Common.{map, take}
 use Rattle.xm_search.proofs.Choices.{in_at}
-use Rattle.xm_search.proofs.Finishing.{fault_in, some_before, spent_next, took, unpaid_root}
+use Rattle.xm_search.proofs.Finishing.{fault_in, root_fits, some_before, spent_next, took, unpaid_root}
 use Rattle.xm_search.specs.Inner.Ground.{lemmas_of}
 use Rattle.xm_search.proofs.searching.search_next.Goals as goal
 
@@ -24,7 +24,7 @@ returns-then-left-eq0-clause-next c =
     let some = some_before it lemmas order budget place old progress c.requires.budget (omega arith) c.requires.place in
     let work = unpaid_root it lemmas (take place order) lit c.in_ok-tree.tree.items some (ap (map step_of) c.in_ok-tree.ensures) in
     spent_next it lemmas order budget place old c.in_ok-add_goal.field-0 lit c.in_ok-tree.tree.items 0 0 progress c.requires.place (get_or_default order place (Stuck 0) lit c.requires.place)
-    c.in_ok-add_goal.ensures work (omega arith)
+    c.in_ok-add_goal.ensures work (omega arith) (root_fits c.in_ok-tree.tree.items (ap (map step_of) c.in_ok-tree.ensures))
 
 pub returns-in-Err-clause-fault : goal.returns-in-Err-clause-fault
 returns-in-Err-clause-fault c =
