@@ -2,7 +2,9 @@
 use Rattle.std.proofs.Common.{◌≡◌, ℕ, ◌≤◌, List, Some, None, Option, length, slice_get, Result, Ok, Err, IfOk, inl, inr, ◌⊎◌, map, refl, ap, sym, ◌∙◌, arith}
 use Rattle.std.proofs.lemmas.List.{length-map}
 use Rattle.std.proofs.lemmas.Option.{slice_get_past}
+use Rattle.std.specs.List.{refill}
 use Rattle.xm_model.specs.Component.{Component, Fork, Function, Join, Merge, Queue, Sink, Source, Switch, Nothing, component_of, content_of}
+use Rattle.xm_model.specs.Lending.{refill-full}
 use Rattle.xm_model.specs.Signals.{Signals, packets_in}
 use Rattle.xm_model.specs.Views.{content_at, content_or}
 use Rattle.xm_model.specs.declared.state.Cell.{Cell}
@@ -88,7 +90,7 @@ holds_or_not (Join a b o s) = inl tt
 holds_or_not (Switch i a b t) = inl tt
 holds_or_not (Merge a b o) = inr (λ h. h)
 
-pub still_went : (ms : List Component) (old new : List Cell) (φ : Signals) → IsRoomy ms old → AreStill ms old → KeptAdvance ms old new φ → AllAdvance ms old new φ
+still_went : (ms : List Component) (old new : List Cell) (φ : Signals) → IsRoomy ms old → AreStill ms old → KeptAdvance ms old new φ → AllAdvance ms old new φ
 still_went ms old new φ roomy still kept = record {
   whole = kept.whole;
   advanced = λ p m has. elim (holds_or_not m) [
@@ -96,3 +98,13 @@ still_went ms old new φ roomy still kept = record {
     | inr busy ↦ kept.advanced p m has busy
   ];
 }
+
+-- so has the list that the new cells fill again
+pub record Went (ms : List Component) (old new : List Cell) (φ : Signals) : Type 0 where
+  pub went : AllAdvance ms old new φ
+  pub whole : refill (length old) old new ≡ new
+
+pub still_whole : (ms : List Component) (old new : List Cell) (φ : Signals) → IsRoomy ms old → AreStill ms old → KeptAdvance ms old new φ → Went ms old new φ
+still_whole ms old new φ roomy still kept =
+    let went = still_went ms old new φ roomy still kept in
+    record { went = went; whole = refill-full (length old) old new went.whole }

@@ -1,5 +1,5 @@
 -- The queues of a net and its other primitives that hold something, one more in its list.
-use Rattle.std.proofs.Common.{◌≡◌, ℕ, ◌+◌, List, [], ◌∷◌, ◌++◌, Some, length, slice_get, Result, Ok, Err, OnOk, ap, subst, inl, inr, arith}
+use Rattle.std.proofs.Common.{◌≡◌, ℕ, ◌+◌, ◌<◌, List, [], ◌∷◌, ◌++◌, Some, length, slice_get, Result, Ok, Err, OnOk, ap, subst, inl, inr, arith}
 use Rattle.std.proofs.lemmas.Bool.{cases_lt}
 use Rattle.xm_model.specs.Component.{Component, Fork, Function, Join, Merge, Queue, Sink, Source, Switch}
 use Rattle.xm_order.specs.Lemmas.Items.{get-append_left, get-push_last, push_cases}
@@ -20,6 +20,21 @@ none_listed ms = record {
   apart = λ j k x y at_j at_k same. absurd cc;
 }
 
+-- places that stand once each do so with one more, which is later
+once_more : {A : Type 0} (place : A → ℕ) (n : ℕ) (xs : List A) (it : A) → place it ≡ n → ((k : ℕ) (x : A) → slice_get xs k ≡ Some x → place x < n) →
+    ((j k : ℕ) (x y : A) → slice_get xs j ≡ Some x → slice_get xs k ≡ Some y → place x ≡ place y → j ≡ k) →
+    (j k : ℕ) (x y : A) → slice_get (xs ++ it ∷ []) j ≡ Some x → slice_get (xs ++ it ∷ []) k ≡ Some y → place x ≡ place y → j ≡ k
+once_more place n xs it is_n below once j k x y at_j at_k same = elim (push_cases xs it j x at_j) [
+  | inl old_j ↦ elim (push_cases xs it k y at_k) [
+    | inl old_k ↦ once j k x y old_j old_k same
+    | inr new_k ↦ absurd (let b = below j x old_j in let e = ap place new_k.1 in omega arith)
+  ]
+  | inr new_j ↦ elim (push_cases xs it k y at_k) [
+    | inl old_k ↦ absurd (let b = below k y old_k in let e = ap place new_j.1 in omega arith)
+    | inr new_k ↦ (let a = new_j.0 in let b = new_k.0 in omega arith)
+  ]
+]
+
 pub other_listed : (ms : List Component) (n : ℕ) (queues : List QueuePlace) (others : List Holder) (it : Holder) → it.prim ≡ n → IsHolderAt ms it → AreKindsTo ms n queues others → AreKindsTo ms (n + 1) queues (others ++ it ∷ [])
 other_listed ms n queues others it is_n is_holder before = record {
   queue_at = λ k x at. let h = before.queue_at k x at in (h.0, (let b = h.1 in omega arith));
@@ -38,16 +53,7 @@ other_listed ms n queues others it is_n is_holder before = record {
     | inr late ↦ inr (inl (length others, (it, (get-push_last others it, (omega arith)))))
   ];
   queues_once = before.queues_once;
-  others_once = λ j k x y at_j at_k same. elim (push_cases others it j x at_j) [
-    | inl old_j ↦ elim (push_cases others it k y at_k) [
-      | inl old_k ↦ before.others_once j k x y old_j old_k same
-      | inr new_k ↦ absurd (let h = before.other_at j x old_j in let b = h.1 in let e = ap (λ (z : Holder). z.prim) new_k.1 in omega arith)
-    ]
-    | inr new_j ↦ elim (push_cases others it k y at_k) [
-      | inl old_k ↦ absurd (let h = before.other_at k y old_k in let b = h.1 in let e = ap (λ (z : Holder). z.prim) new_j.1 in omega arith)
-      | inr new_k ↦ (let a = new_j.0 in let b = new_k.0 in omega arith)
-    ]
-  ];
+  others_once = once_more (λ (x : Holder). x.prim) n others it is_n (λ k x at. (before.other_at k x at).1) before.others_once;
   apart = λ j k x y at_j at_k same. elim (push_cases others it k y at_k) [
     | inl old ↦ before.apart j k x y at_j old same
     | inr new ↦ (let h = before.queue_at j x at_j in let b = h.1 in let e = ap (λ (z : Holder). z.prim) new.1 in absurd (omega arith))
@@ -68,16 +74,7 @@ queue_listed ms n queues others it is_n is_queue before = record {
     ]
     | inr late ↦ inl (length queues, (it, (get-push_last queues it, (omega arith))))
   ];
-  queues_once = λ j k x y at_j at_k same. elim (push_cases queues it j x at_j) [
-    | inl old_j ↦ elim (push_cases queues it k y at_k) [
-      | inl old_k ↦ before.queues_once j k x y old_j old_k same
-      | inr new_k ↦ absurd (let h = before.queue_at j x old_j in let b = h.1 in let e = ap (λ (z : QueuePlace). z.prim) new_k.1 in omega arith)
-    ]
-    | inr new_j ↦ elim (push_cases queues it k y at_k) [
-      | inl old_k ↦ absurd (let h = before.queue_at k y old_k in let b = h.1 in let e = ap (λ (z : QueuePlace). z.prim) new_j.1 in omega arith)
-      | inr new_k ↦ (let a = new_j.0 in let b = new_k.0 in omega arith)
-    ]
-  ];
+  queues_once = once_more (λ (x : QueuePlace). x.prim) n queues it is_n (λ k x at. (before.queue_at k x at).1) before.queues_once;
   others_once = before.others_once;
   apart = λ j k x y at_j at_k same. elim (push_cases queues it j x at_j) [
     | inl old ↦ before.apart j k x y old at_k same

@@ -113,18 +113,14 @@ advance_holding-any-requires g c =
 
 pub stays_at-stays-requires : goal.stays_at-stays-requires
 stays_at-stays-requires g c =
-    let ms : List Component = c.args.evaluator.now.net.prims in
     let it : Holder = get_or c.as_slice-others.result.now c.loop-i.i (record { prim = 0; holds = holding.Packets 0 0 }) in
-    let at = slice_get-get_or c.as_slice-others.result.now c.loop-i.i (record { prim = 0; holds = holding.Packets 0 0 }) c.loop-i-test.true in
-    let h = (c.loop-i.invariant.1.0.other_at c.loop-i.i it at).1 in
+    let h = (c.loop-i.invariant.1.0.other_at c.loop-i.i it (slice_get-get_or c.as_slice-others.result.now c.loop-i.i (record { prim = 0; holds = holding.Packets 0 0 }) c.loop-i-test.true)).1 in
     omega (arith, h, c.loop-i.auto.changed, c.loop-k.auto.changed, c.requires.changed)
 
 pub bounds-changed-other : goal.bounds-changed-other
 bounds-changed-other g c =
-    let ms : List Component = c.args.evaluator.now.net.prims in
     let it : Holder = get_or c.as_slice-others.result.now c.loop-i.i (record { prim = 0; holds = holding.Packets 0 0 }) in
-    let at = slice_get-get_or c.as_slice-others.result.now c.loop-i.i (record { prim = 0; holds = holding.Packets 0 0 }) c.loop-i-test.true in
-    let h = (c.loop-i.invariant.1.0.other_at c.loop-i.i it at).1 in
+    let h = (c.loop-i.invariant.1.0.other_at c.loop-i.i it (slice_get-get_or c.as_slice-others.result.now c.loop-i.i (record { prim = 0; holds = holding.Packets 0 0 }) c.loop-i-test.true)).1 in
     omega (arith, h, c.loop-i.auto.changed, c.loop-k.auto.changed, c.requires.changed)
 
 pub loop-i-preserved : goal.loop-i-preserved
