@@ -174,8 +174,8 @@ fn write_spent<K: Sink>(
     out: &mut K,
 ) -> Ended
     requires prepared { IsPrepared bytes.now prepared.now }
-    requires cited { AreCited prepared.now.design (argument_of partial.now).lemmas }
     requires form { IsOfForm prepared.now.design (argument_of partial.now).lemmas (argument_of partial.now) }
+    requires cited { AreCited prepared.now.design (argument_of partial.now).lemmas }
     ensures { (budget : ℕ)
         → IsSpent prepared.now.design (argument_of partial.now).lemmas budget (argument_of partial.now) nodes pivots
         → HasAnswered bytes.now (command.Prove budget) (change K.held K.faults out.old out.new) result }
