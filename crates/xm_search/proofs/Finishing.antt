@@ -8,15 +8,12 @@ use Rattle.std.specs.Prelude.{◌^◌, ◌-◌, All, true}
 use Rattle.xm_design.specs.Designed.{Designed, IsDesigned}
 use Rattle.xm_flow.specs.ValidLemma.{Lemma}
 use Rattle.xm_lits.specs.declared.literal.Lit.{Lit}
-use Rattle.xm_model.specs.ListView.{ListView}
 use Rattle.xm_model.specs.Membership.{IsIn}
-use Rattle.xm_proof.specs.Argument.{Cite, Clash, Eager, Open, Refutation, Split, Step, Sum, argument_of, literals, refutation_of, step_of}
+use Rattle.xm_proof.specs.Argument.{Cite, Clash, Eager, Open, Refutation, Split, Step, Sum, literals, refutation_of, step_of}
 use Rattle.xm_proof.specs.Form.{are_trees, kids_of}
 use Rattle.xm_proof.specs.OfNet.{IsLiteralOf}
 use Rattle.xm_proof.specs.Valid.{AllRefuted, AreLemmas, GoalsRefuted, IsProof, Refutes}
-use Rattle.xm_proof.specs.declared.proof.Goal.{Goal}
 use Rattle.xm_proof.specs.declared.proof.Node.{Node}
-use Rattle.xm_proof.specs.declared.proof.Proof.{Proof}
 use Rattle.xm_rows.specs.Row.{SparseRow}
 use Rattle.xm_search.proofs.Orders.{order_complete, order_goals}
 use Rattle.xm_search.proofs.TreesOfNet.{AreBelow, goal_of_net, goals_of_net, kid_count}
@@ -28,7 +25,7 @@ use Rattle.xm_search.specs.Inner.Progress.{Adds, FitsFound, FitsTrees, IsHalted,
 use Rattle.xm_search.specs.Partial.{AreFinished, ArePaid, IsAtWork, IsPaidTree, IsPartial, all_nodes, for_root, no_root, none, one_more, some_kids}
 use Rattle.xm_search.specs.Pivots.{all_whole}
 use Rattle.xm_search.specs.Searched.{IsFault, IsFull, IsOfForm, IsOpen, IsSpent}
-use Rattle.xm_search.specs.Trees.{AreTrees, IsStep, kids, left_by, open_at, open_paths, root}
+use Rattle.xm_search.specs.Trees.{AreTrees, IsStep, kids, open_at, open_paths, root}
 use Rattle.xm_search.specs.declared.found.Candidate.{Candidate}
 use Rattle.xm_search.specs.declared.found.SearchFault.{SearchFault}
 use Rattle.xm_search.specs.declared.found.SearchFault.TheVariants as fault

@@ -1,14 +1,14 @@
 -- What the trees of a search name is of the net.
-use Rattle.std.proofs.Common.{◌≡◌, ◌⊎◌, ℕ, suc, ◌+◌, ◌<◌, ◌≤◌, ◌^◌, List, [], ◌∷◌, ◌++◌, All, Option, Some, None, Bool, true, false, length, refl, sym, ◌∙◌, ap, subst, arith, inl, inr, slice_get, length-append}
+use Rattle.std.proofs.Common.{◌≡◌, ℕ, ◌+◌, ◌<◌, ◌≤◌, ◌^◌, List, [], ◌∷◌, ◌++◌, All, Option, Some, None, Bool, true, false, length, refl, sym, ◌∙◌, ap, subst, arith, inl, inr, slice_get, length-append}
 use Rattle.std.specs.Prelude.{cond, nat_eq, nat_lt}
 use Rattle.std.proofs.lemmas.Bool.{and_parts, cases_Bool, cases_eq, cond-true, cond-false, eqb-true, ltb-true, ne_eqb, or_cases}
 use Rattle.std.proofs.lemmas.List.{length-map}
-use Rattle.std.proofs.lemmas.List.Elements.{All-append, All-cons, All-head, All-map, All-nil, All-tail}
+use Rattle.std.proofs.lemmas.List.Elements.{All-append, All-cons, All-head, All-nil, All-tail}
 use Rattle.std.proofs.lemmas.Option.{slice_get_within}
 use Rattle.xm_colours.specs.Family.{colours_at}
 use Rattle.xm_design.specs.Designed.{Designed, IsDesigned}
 use Rattle.xm_flow.specs.ValidLemma.{Lemma}
-use Rattle.xm_lits.specs.Clashes.{is_offered, one_offers}
+use Rattle.xm_lits.specs.Clashes.{one_offers}
 use Rattle.xm_lits.specs.Inference.{Inference, has_colour, rules_of}
 use Rattle.xm_lits.specs.Paths.{are_same, is_on_path}
 use Rattle.xm_lits.specs.declared.inference.RuleName.{RuleName}
@@ -22,7 +22,7 @@ use Rattle.xm_model.specs.Net.{IsNet, Network, initiators, outputs}
 use Rattle.xm_proof.specs.Argument.{Cite, Clash, Eager, Open, Refutation, Split, Step, Sum}
 use Rattle.xm_proof.specs.Form.{kids_of}
 use Rattle.xm_proof.specs.Lemmas.Refuting.{lit_from}
-use Rattle.xm_proof.specs.OfNet.{IsColour, IsGoalOf, IsItemOf, IsLiteralOf, IsPlace, IsQueue, IsStepOf, IsViaOf, has_via}
+use Rattle.xm_proof.specs.OfNet.{IsColour, IsGoalOf, IsItemOf, IsLiteralOf, IsPlace, IsStepOf, IsViaOf, has_via}
 use Rattle.xm_proof.specs.Sums.{Sums, no_sums}
 use Rattle.xm_proof.specs.Tests.{find_rule, is_named, is_queue, is_queue_pair, longer, name_number, only_where, queue_columns, same_colour}
 use Rattle.xm_proof.specs.Valid.{AddUp, AreGoals, is_dead_pair, item_row, lemma_row, multiplier, of_a_queue}
