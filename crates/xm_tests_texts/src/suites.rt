@@ -2,6 +2,7 @@
 
 mod commands;
 mod documents;
+mod gates;
 mod generated;
 mod helpers;
 mod inputs;

@@ -53,7 +53,7 @@ pub const WITHOUT_OUTPUT: Outside = Outside {
 };
 
 /// No call, or call 1 alone.
-fn failing(alloc: Global, is_failing: bool) -> Result<List<u32>, OutOfMemory> {
+pub fn failing(alloc: Global, is_failing: bool) -> Result<List<u32>, OutOfMemory> {
     let mut calls = List::new(alloc);
     if is_failing {
         calls.push(1)?;
@@ -287,7 +287,8 @@ pub fn wide(alloc: Global, fails: Option<u32>) -> Result<MemSink, OutOfMemory> {
     MemSink::new(alloc, 2_000_000, 2_000_000, calls)
 }
 
-fn lines_of(bytes: &[u8]) -> usize {
+/// How many lines there are.
+pub fn lines_of(bytes: &[u8]) -> usize {
     bytes.iter().filter(|byte| **byte == b'\n').count()
 }
 

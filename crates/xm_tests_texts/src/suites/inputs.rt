@@ -80,6 +80,12 @@ pub const NO_TAPE: &str =
     {"kind":"queue","name":"Q","in":"c0","out":"c1","capacity":1},
     {"kind":"sink","name":"K","in":"c1"}]}"#;
 
+/// The stream with a tape of no cycles.
+pub const NO_CYCLES: &str =
+    r#"{"version":1,"colours":["req"],"net":[{"kind":"source","name":"S","out":"c0","colours":["req"]},
+    {"kind":"queue","name":"Q","in":"c0","out":"c1","capacity":1},
+    {"kind":"sink","name":"K","in":"c1"}],"tape":{"rows":[]}}"#;
+
 /// The stream with a mark that no source takes in its second row.
 pub const BAD_MARK: &str =
     r#"{"version":1,"colours":["req"],"net":[{"kind":"source","name":"S","out":"c0","colours":["req"]},
@@ -153,14 +159,29 @@ pub const ALL_MARKS_PRINTED: &str = concat!(
     "sum c0.k4 1\nsum c0.k3 1\nsum c0.k2 1\nsum c0.k1 1\nsum c0.k0 1\nend 36\n"
 );
 
-/// A fork, a queue on each of its sides, and a join.
+/// A fork, a queue on each of its sides, and a join; a packet goes through.
 pub const FORK_JOIN: &str =
     r#"{"version":1,"colours":["req"],"net":[{"kind":"source","name":"S","out":"c0","colours":["req"]},
     {"kind":"fork","name":"F","in":"c0","a":"c1","b":"c2"},
     {"kind":"queue","name":"Qd","in":"c1","out":"c3","capacity":2},
     {"kind":"queue","name":"Qt","in":"c2","out":"c4","capacity":2},
     {"kind":"join","name":"J","a":"c3","b":"c4","out":"c5","pass":"a"},
-    {"kind":"sink","name":"K","in":"c5"}]}"#;
+    {"kind":"sink","name":"K","in":"c5"}],"tape":{"rows":["01",".."]}}"#;
+
+/// Four queues in a row, up to the tape.
+pub const FOUR_QUEUES: &str =
+    r#"{"version":1,"colours":["req"],"net":[{"kind":"source","name":"S","out":"c0","colours":["req"]},
+    {"kind":"queue","name":"Q0","in":"c0","out":"c1","capacity":2},
+    {"kind":"queue","name":"Q1","in":"c1","out":"c2","capacity":2},
+    {"kind":"queue","name":"Q2","in":"c2","out":"c3","capacity":2},
+    {"kind":"queue","name":"Q3","in":"c3","out":"c4","capacity":2},
+    {"kind":"sink","name":"K","in":"c4"}],"tape":"#;
+
+/// The end of a document, with a tape of 100 cycles.
+pub const CYCLES_100: &str = r#"{"cycles":100,"seed":5}}"#;
+
+/// The same with 2,500 cycles.
+pub const CYCLES_2500: &str = r#"{"cycles":2500,"seed":5}}"#;
 
 /// Two credits that go round, and packets that go with one each.
 pub const CREDITS: &str = r#"{"version":2,"colours":["req"],"net":[

@@ -1,44 +1,90 @@
 //! Simulations by the top call: what `sim` prints, and what it refuses.
 
-use super::commands::{Answer, NO_CALL, wide};
-use super::helpers::words_in;
-use super::inputs::{NO_TAPE, STREAM, THREE_ROUNDS};
+use super::commands::{Answer, NO_CALL, failing, wide};
+use super::helpers::{joined, words_in};
+use super::inputs::*;
 use std::alloc::Global;
 use std::sync::Wait;
 use std::thread::Threads;
 use xm_commands::xmas;
-use xm_io::{CleanSource, MemSink, OpenGate, Words};
-use xm_model::{OutOfMemory, Text};
+use xm_io::{CleanSource, Gate, MemSink, NoSink, OpenGate, Sink, Words};
+use xm_model::OutOfMemory;
 
-/// The status of these words, and what they write and tell.
-fn simulate<R: Threads + Wait + Sync>(
+/// The status of the words of this line, with a document in pieces.
+pub fn simulate<K: Sink, E: Sink, G: Gate, R: Threads + Wait + Sync>(
     rt: &R,
     alloc: Global,
-    words: &Words,
-    document: Text,
-    out: &mut MemSink,
-    err: &mut MemSink,
-) -> u8 {
-    let mut source = CleanSource::new(document);
-    xmas(rt, alloc, words, &mut source, out, err, &OpenGate)
+    line: &str,
+    document: &[&str],
+    out: &mut K,
+    err: &mut E,
+    gate: &G,
+) -> Option<u8> {
+    match (words_in(alloc, line), joined(alloc, document)) {
+        (Ok(words), Ok(document)) => {
+            let mut source = CleanSource::new(document);
+            Some(xmas(rt, alloc, &Words { words }, &mut source, out, err, gate))
+        }
+        _ => None,
+    }
+}
+
+/// What the words of this line write for a document in pieces, where they end with status 0.
+pub fn written<G: Gate, R: Threads + Wait + Sync>(
+    rt: &R,
+    alloc: Global,
+    line: &str,
+    document: &[&str],
+    gate: &G,
+) -> Option<MemSink> {
+    match wide(alloc, None) {
+        Ok(mut out) => {
+            match simulate(
+                rt,
+                alloc,
+                line,
+                document,
+                &mut out,
+                &mut NoSink::new(),
+                gate,
+            ) {
+                Some(0) => Some(out),
+                _ => None,
+            }
+        }
+        Err(OutOfMemory) => None,
+    }
+}
+
+/// Whether the words of this line write just what `run` does.
+pub fn writes_run<G: Gate, R: Threads + Wait + Sync>(
+    rt: &R,
+    alloc: Global,
+    line: &str,
+    document: &[&str],
+    gate: &G,
+) -> bool {
+    match (
+        written(rt, alloc, "run", document, &OpenGate),
+        written(rt, alloc, line, document, gate),
+    ) {
+        (Some(run), Some(out)) => run.held() == out.held(),
+        _ => false,
+    }
 }
 
 fn gives<R: Threads + Wait + Sync>(
     rt: &R,
     alloc: Global,
-    words: &Words,
-    document: Text,
+    line: &str,
+    document: &str,
     out: &mut MemSink,
+    err: &mut MemSink,
     answer: Answer,
 ) -> bool {
-    match wide(alloc, None) {
-        Ok(mut err) => {
-            simulate(rt, alloc, words, document, out, &mut err) == answer.status
-                && out.held() == answer.out.as_bytes()
-                && err.held() == answer.err.as_bytes()
-        }
-        Err(OutOfMemory) => false,
-    }
+    simulate(rt, alloc, line, &[document], out, err, &OpenGate) == Some(answer.status)
+        && out.held() == answer.out.as_bytes()
+        && err.held() == answer.err.as_bytes()
 }
 
 /// Whether the words of this line, with the document, have this answer.
@@ -49,14 +95,8 @@ fn is_simulated<R: Threads + Wait + Sync>(
     document: &str,
     answer: Answer,
 ) -> bool {
-    match (
-        words_in(alloc, line),
-        Text::from_bytes(alloc, document.as_bytes()),
-        wide(alloc, None),
-    ) {
-        (Ok(words), Ok(document), Ok(mut out)) => {
-            gives(rt, alloc, &Words { words }, document, &mut out, answer)
-        }
+    match (wide(alloc, None), wide(alloc, None)) {
+        (Ok(mut out), Ok(mut err)) => gives(rt, alloc, line, document, &mut out, &mut err, answer),
         _ => false,
     }
 }
@@ -68,7 +108,7 @@ const RUN: &str = "0 c0:req\n1 c1:req\nsum c0.req 1\nsum c1.req 1\nend 2\n";
 const WATCHED: &str = "0 c0:req\n1 c1:req\nsum c0.req 1\nsum c1.req 1\nend 2\nsnap 1 Q.req=1\n";
 
 /// The words of simulations, their documents, and the answers.
-const CASES: [(&str, &str, Answer<'static>); 7] = [
+const CASES: [(&str, &str, Answer<'static>); 8] = [
     (
         "sim --parts 2 --workers 2",
         STREAM,
@@ -84,6 +124,15 @@ const CASES: [(&str, &str, Answer<'static>); 7] = [
         Answer {
             status: 0,
             out: WATCHED,
+            err: "",
+        },
+    ),
+    (
+        "sim --parts 2 --workers 2",
+        NO_CYCLES,
+        Answer {
+            status: 0,
+            out: "end 0\n",
             err: "",
         },
     ),
@@ -113,49 +162,62 @@ fn simulations_have_their_status(rt: HostRuntime) {
     assert!(rt; all_are_simulated(&rt, rt.alloc()));
 }
 
-/// Writes what this line gives for the run of three rounds.
-fn write_rounds<R: Threads + Wait + Sync>(
-    rt: &R,
-    alloc: Global,
-    line: &str,
-    out: &mut MemSink,
-) -> Option<u8> {
-    match (
-        words_in(alloc, line),
-        Text::from_bytes(alloc, THREE_ROUNDS.as_bytes()),
-        wide(alloc, None),
-    ) {
-        (Ok(words), Ok(document), Ok(mut err)) => Some(simulate(
-            rt,
-            alloc,
-            &Words { words },
-            document,
-            out,
-            &mut err,
-        )),
-        _ => None,
-    }
+/// Words, and the pieces of a document.
+const RUNS: [(&str, [&str; 2]); 4] = [
+    ("sim --parts 3 --workers 2", [THREE_ROUNDS, ""]),
+    ("sim --parts 4 --workers 3", [FOUR_QUEUES, CYCLES_100]),
+    ("sim --parts 1 --workers 64", [FOUR_QUEUES, CYCLES_100]),
+    ("sim --parts 64 --workers 1", [FOUR_QUEUES, CYCLES_100]),
+];
+
+fn all_write_runs<R: Threads + Wait + Sync>(rt: &R, alloc: Global) -> bool {
+    RUNS.iter()
+        .all(|case| writes_run(rt, alloc, case.0, &case.1, &OpenGate))
 }
 
-fn write_same<R: Threads + Wait + Sync>(
+#[test]
+fn any_parts_and_workers_print_the_run(rt: HostRuntime) {
+    assert!(rt; all_write_runs(&rt, rt.alloc()));
+}
+
+/// An output that takes pieces of 4,096 bytes, of which the second call fails.
+fn short(alloc: Global) -> Result<MemSink, OutOfMemory> {
+    MemSink::new(alloc, 100_000, 4_096, failing(alloc, true)?)
+}
+
+fn leaves_front<R: Threads + Wait + Sync>(
     rt: &R,
     alloc: Global,
-    run: &mut MemSink,
+    run: &MemSink,
     out: &mut MemSink,
 ) -> bool {
-    write_rounds(rt, alloc, "run", run) == Some(0)
-        && write_rounds(rt, alloc, "sim --parts 3 --workers 2", out) == Some(0)
-        && run.held() == out.held()
+    let line = "sim --parts 2 --workers 2";
+    let document = [FOUR_QUEUES, CYCLES_2500];
+    simulate(
+        rt,
+        alloc,
+        line,
+        &document,
+        out,
+        &mut NoSink::new(),
+        &OpenGate,
+    ) == Some(7)
+        && out.held().len() == 4_096
+        && run.held().starts_with(out.held())
 }
 
-fn is_same<R: Threads + Wait + Sync>(rt: &R, alloc: Global) -> bool {
-    match (wide(alloc, None), wide(alloc, None)) {
-        (Ok(mut run), Ok(mut out)) => write_same(rt, alloc, &mut run, &mut out),
+/// Whether an output that fails holds the front of a run that came before.
+fn holds_front<R: Threads + Wait + Sync>(rt: &R, alloc: Global) -> bool {
+    match (
+        written(rt, alloc, "run", &[FOUR_QUEUES, CYCLES_2500], &OpenGate),
+        short(alloc),
+    ) {
+        (Some(run), Ok(mut out)) => leaves_front(rt, alloc, &run, &mut out),
         _ => false,
     }
 }
 
 #[test]
-fn a_simulation_prints_the_run(rt: HostRuntime) {
-    assert!(rt; is_same(&rt, rt.alloc()));
+fn a_failed_output_holds_the_front_of_the_run(rt: HostRuntime) {
+    assert!(rt; holds_front(&rt, rt.alloc()));
 }
