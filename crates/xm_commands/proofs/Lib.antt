@@ -1,6 +1,8 @@
 mod Budgets
 mod Calls
 mod Checked
+mod Counted
+mod Demonstrated
 mod OneAnswer
 mod OneBasis
 mod OneColours

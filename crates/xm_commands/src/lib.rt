@@ -6,6 +6,9 @@ mod answer;
 mod budget;
 mod call;
 mod command;
+mod counting;
+mod demonstrating;
+mod demonstration_words;
 mod generating;
 mod invariants;
 mod laws;
@@ -19,8 +22,8 @@ mod top;
 mod verifying;
 mod writing;
 
-pub use call::Call;
-pub use command::{Command, Outcome, Simulation, is_sim};
+pub use call::{Call, Demonstration};
+pub use command::{Command, Outcome, Simulation, starts_workers};
 pub use laws::{
     no_output_of_refused, one_output, one_refusal, printed_invariants_hold, proved_texts_verify,
     verified_nets_hold,

@@ -11,7 +11,7 @@ use xm_io::{CleanSource, MemSink, OpenGate, Words};
 use xm_model::{OutOfMemory, Text};
 
 /// The status of these words, and what they write and tell.
-fn simulate<R: Threads + Wait + Sync>(
+pub fn simulate<R: Threads + Wait + Sync>(
     rt: &R,
     alloc: Global,
     words: &Words,
@@ -42,7 +42,7 @@ fn gives<R: Threads + Wait + Sync>(
 }
 
 /// Whether the words of this line, with the document, have this answer.
-fn is_simulated<R: Threads + Wait + Sync>(
+pub fn is_simulated<R: Threads + Wait + Sync>(
     rt: &R,
     alloc: Global,
     line: &str,
