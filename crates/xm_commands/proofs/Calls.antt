@@ -1,11 +1,11 @@
 -- What each clause of the top call says of the calls that words make.
-use Rattle.std.proofs.Common.{◌≡◌, ◌≢◌, ◌≤◌, ◌<◌, ◌^◌, ◌⊎◌, inl, inr, ℕ, true, false, List, [], ◌∷◌, Option, Some, None, Result, Ok, Err, refl, sym, ap, ◌∙◌, subst, arith}
+use Rattle.std.proofs.Common.{◌≡◌, ◌≢◌, ◌≤◌, ◌<◌, ◌^◌, ◌⊎◌, ℕ, true, false, List, [], ◌∷◌, Option, Some, None, Result, Ok, Err, refl, sym, ap, subst, arith}
 use Rattle.std.specs.Prelude.{IfErr, IfOk, OnErr, OnOk}
 use Rattle.std.specs.Io.KnownBytes.{Appends}
 use Rattle.xm_commands.proofs.Whys.{no_memory, why_quiet, why_read, why_read_unharmed, why_read_within, why_too_long, why_unknown, why_unread}
 use Rattle.xm_commands.proofs.Whys.{why_unwritten, why_words, why_write, why_write_unharmed}
 use Rattle.xm_commands.specs.Calls.{demonstration_of, demonstration_options, generate_options, generate_with, reads_document}
-use Rattle.xm_commands.specs.Drawn.{IsDrawn, PrintsDrawnFront, ends_drawn, of_demonstrate, of_generate}
+use Rattle.xm_commands.specs.Drawn.{IsDrawn, PrintsDrawnFront, ends_drawn, of_generate}
 use Rattle.xm_commands.specs.Inner.CallEnded.{HasCalled, HasDrawn, IsDemonstrable, IsWithin}
 use Rattle.xm_commands.specs.Change.{Change}
 use Rattle.xm_commands.specs.Inner.WhyEnded.{HasEnded, IsUnharmed, IsUntouched}

@@ -1,5 +1,5 @@
 -- A document that is drawn is refused for want of memory alone, and its tape has a cycle.
-use Rattle.std.proofs.Common.{◌≡◌, ℕ, zero, suc, ◌+◌, ◌-◌, ◌*◌, ◌^◌, ◌<◌, ◌≤◌, true, List, [], ◌∷◌, length, Option, Some, None, Result, Ok, Err, refl, sym, ap, ap₂, ◌∙◌, subst, codes, arith}
+use Rattle.std.proofs.Common.{◌≡◌, ℕ, zero, suc, ◌-◌, ◌*◌, ◌^◌, ◌<◌, ◌≤◌, true, List, [], length, Option, Some, Result, Ok, Err, refl, sym, ap, ap₂, ◌∙◌, subst, codes, arith}
 use Rattle.std.specs.Prelude.{IfOk, nat_le, option_map}
 use Rattle.std.proofs.lemmas.Bool.{le-leb}
 use Rattle.serde_json.specs.Data.{Data, member, no_members, number, object, unsigned}
@@ -10,7 +10,6 @@ use Rattle.xm_commands.specs.Inner.Prepared.{IsPrepared, IsRefusedAs}
 use Rattle.xm_commands.specs.Inner.WhyEnded.{IsWriteFault}
 use Rattle.xm_commands.specs.Output.{IsDesignOf}
 use Rattle.xm_commands.specs.Refusal.{Refuses, of_colour, of_document, of_loop, of_overflow, of_persistency, of_tape, of_width}
-use Rattle.xm_commands.specs.declared.command.Command.{Command}
 use Rattle.xm_commands.specs.declared.command.Command.TheVariants as command
 use Rattle.xm_commands.specs.declared.prepared.Prepared.{Prepared}
 use Rattle.xm_commands.specs.declared.refusal.Refusal.{Refusal}
@@ -32,7 +31,6 @@ use Rattle.xm_order.specs.OneRun.{OneRun}
 use Rattle.xm_report.specs.Demo.{demo_text}
 use Rattle.xm_report.specs.declared.demo.RunCounts.{RunCounts}
 use Rattle.xm_tape.specs.Draws.{number_after, rows_drawn, seeded_rows}
-use Rattle.xm_tape.specs.Fault as tape
 use Rattle.xm_tape.specs.Gives.{Fails}
 use Rattle.xm_tape.specs.Marks.{oracles_of}
 use Rattle.xm_tape.specs.Reading.{draft_in, form_in, seeded_in, tape_in, taped_in}

@@ -6,6 +6,7 @@ mod Demonstrated
 mod OneAnswer
 mod OneBasis
 mod OneColours
+mod OneCount
 mod OneText
 mod Printed
 mod Proving

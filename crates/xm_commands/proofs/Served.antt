@@ -1,5 +1,5 @@
 -- What the top call says, from how the call that the words make ended, and from the status that was concluded.
-use Rattle.std.proofs.Common.{◌≡◌, ◌≢◌, ◌⊎◌, inl, inr, ℕ, true, false, Option, Some, None, Result, Ok, Err, refl, sym, ap, ◌∙◌, subst}
+use Rattle.std.proofs.Common.{◌≡◌, ◌⊎◌, ℕ, true, false, Option, Some, Result, Ok, Err, refl, sym, ap, ◌∙◌, subst}
 use Rattle.xm_commands.proofs.Calls.{call_quiet, call_read, call_read_unharmed, call_read_within, call_too_long, call_unknown, call_unread}
 use Rattle.xm_commands.proofs.Calls.{call_unwritten, call_words, call_write, call_write_unharmed, done_called, done_read_unharmed, done_unread}
 use Rattle.xm_commands.proofs.Calls.{done_write_unharmed, drawn_as, drawn_ends, drawn_front, drawn_memory, obeyed}

@@ -8,7 +8,6 @@ use Rattle.std.specs.Str.{bytes_eq}
 use Rattle.xm_commands.specs.Calls.{call_in, demonstration_in}
 use Rattle.xm_commands.specs.Inner.Simulating.{IsShared}
 use Rattle.xm_commands.specs.Words.{simulation_in, simulation_of, simulation_options, starts_with}
-use Rattle.xm_commands.specs.declared.call.Call.{Call}
 use Rattle.xm_commands.specs.declared.call.Call.TheVariants as call
 use Rattle.xm_commands.specs.declared.call.Demonstration.{Demonstration}
 use Rattle.xm_commands.specs.declared.command.Command.TheVariants as command

@@ -75,15 +75,7 @@ fn simulated_totals<G: Gate, R: Threads + Wait + Sync>(
         watch: 0,
     };
     let mut nowhere = NoSink::new();
-    match write_parts(
-        rt,
-        alloc,
-        &simulation,
-        prepared,
-        tape,
-        &mut nowhere,
-        gate,
-    ) {
+    match write_parts(rt, alloc, &simulation, prepared, tape, &mut nowhere, gate) {
         Ok(told) => Ok(told.totals),
         Err(refusal) => Err(only_memory(&refusal)),
     }

@@ -31,7 +31,9 @@ const WORDS: [&str; 3] = [
 
 /// The source has a document, which is not read.
 fn all_print_the_smallest<R: Threads + Wait + Sync>(rt: &R, alloc: Global) -> bool {
-    WORDS.iter().all(|line| is_simulated(rt, alloc, *line, STREAM, PRINTED))
+    WORDS
+        .iter()
+        .all(|line| is_simulated(rt, alloc, *line, STREAM, PRINTED))
 }
 
 #[test]
@@ -94,7 +96,9 @@ fn all_are_no_calls<R: Threads + Wait + Sync>(rt: &R, alloc: Global) -> bool {
         out: "",
         err: "words\n",
     };
-    NO_CALLS.iter().all(|line| is_simulated(rt, alloc, *line, STREAM, answer))
+    NO_CALLS
+        .iter()
+        .all(|line| is_simulated(rt, alloc, *line, STREAM, answer))
 }
 
 #[test]

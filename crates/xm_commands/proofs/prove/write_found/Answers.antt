@@ -1,6 +1,5 @@
-use Rattle.std.proofs.Common.{◌≡◌, ℕ, List, map, subst, sym}
+use Rattle.std.proofs.Common.{◌≡◌, ℕ, List, map, subst}
 use Rattle.xm_commands.proofs.Proving.{cited_own, full_own, spent_own}
-use Rattle.xm_commands.specs.Inner.Proving.{AreCited}
 use Rattle.xm_design.specs.Designed.{Designed}
 use Rattle.xm_flow.specs.ValidLemma.{Lemma, lemma_of}
 use Rattle.xm_proof.specs.Argument.{argument_of}
