@@ -1,5 +1,5 @@
 -- The budget that the words give is within its range.
-use Rattle.std.proofs.Common.{◌≤◌, ℕ, List, [], ◌∷◌, arith, refl}
+use Rattle.std.proofs.Common.{ℕ, List, [], ◌∷◌, arith, refl}
 use Rattle.std.specs.Prelude.{Option, Some, None}
 use Rattle.xm_commands.specs.Inner.Plain.{IsPlain}
 use Rattle.xm_commands.specs.Words.{budget_of, budget_option}

@@ -1,9 +1,12 @@
 mod Budgets
 mod Calls
 mod Checked
+mod Counted
+mod Demonstrated
 mod OneAnswer
 mod OneBasis
 mod OneColours
+mod OneCount
 mod OneText
 mod Printed
 mod Proving

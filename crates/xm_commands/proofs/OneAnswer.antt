@@ -12,7 +12,7 @@ use Rattle.xm_commands.proofs.OneColours.{same_first}
 use Rattle.xm_commands.proofs.OneText.{same_text as same_run_text}
 use Rattle.xm_commands.specs.OneAnswer.{NamesLoop, NoOutputOfRefused, OneOutput, OneRefusal, has_one_output, has_one_refusal, may_differ}
 use Rattle.xm_commands.specs.Output.{AreInvariants, IsDesignOf, IsOutput, IsVerdictOf, of_check, of_inv, of_prove, of_run, of_sim, of_verify, of_watched, outcome_of, proof_of}
-use Rattle.xm_commands.specs.Refusal.{AsksForFlow, AsksForInvariants, AsksForRights, AsksForTape, HasProof, HasTape, Refuses, document_status, of_colour, of_document, of_form, of_loop, of_overflow, of_persistency, of_pivots, of_tape, of_width}
+use Rattle.xm_commands.specs.Refusal.{AsksForFlow, AsksForInvariants, AsksForRights, AsksForTape, HasTape, Refuses, document_status, of_colour, of_document, of_form, of_loop, of_overflow, of_persistency, of_pivots, of_tape, of_width}
 use Rattle.xm_commands.specs.declared.command.Command.{Command}
 use Rattle.xm_commands.specs.declared.command.Command.TheVariants as command
 use Rattle.xm_commands.specs.declared.command.Outcome.{Outcome}

@@ -4,7 +4,7 @@ use Rattle.std.proofs.lemmas.List.{length-map}
 use Rattle.std.proofs.lemmas.Option.{get_or_from_slice_get, slice_get-get_or, slice_get-map}
 use Rattle.xm_elim.specs.Basis.{IsReducedBasis, LeadsAt}
 use Rattle.xm_rows.specs.declared.row.Entry.{Entry}
-use Rattle.std.proofs.Common.{Result, zero, suc, ◌+◌, ◌<◌, ◌≤◌, length, get_or, slice_get, map, arith, ◌≡◌, ◌∙◌, ◌++◌, ◌∷◌, [], ℕ, List, Some, Ok, Err, All, take, ap, ap₂, refl, subst, sym, ℤ}
+use Rattle.std.proofs.Common.{Result, zero, suc, ◌<◌, ◌≤◌, length, get_or, slice_get, map, arith, ◌≡◌, ◌∙◌, ◌++◌, ◌∷◌, [], ℕ, List, Some, Ok, Err, All, take, ap, ap₂, refl, subst, sym, ℤ}
 use Rattle.serde_json.specs.Data.{Data}
 use Rattle.serde_json.specs.View.{view}
 use Rattle.serde_json.specs.Written.{compact_text}
@@ -12,7 +12,7 @@ use Rattle.serde_json.specs.declared.value.Value.{Value}
 use Rattle.std.proofs.lemmas.List.Elements.{All-head, All-tail}
 use Rattle.xm_commands.specs.Inner.Prepared.{IsPrepared}
 use Rattle.xm_commands.specs.Inner.Proving.{AreCited, IsValueOf, known_in}
-use Rattle.xm_commands.specs.Output.{AreInvariants, HasProofText, Finds, IsDesignOf, IsOutput, IsProved, IsSearched, a_candidate, a_proof, data_of_proof, no_end, of_prove, of_verify, with_proof}
+use Rattle.xm_commands.specs.Output.{HasProofText, Finds, IsDesignOf, IsOutput, IsProved, IsSearched, a_candidate, a_proof, data_of_proof, no_end, of_prove, of_verify, with_proof}
 use Rattle.xm_commands.specs.ProvedText.{ProvedVerify}
 use Rattle.xm_commands.specs.declared.command.Command.TheVariants as command
 use Rattle.xm_commands.specs.declared.command.Outcome.{Outcome}
@@ -31,8 +31,6 @@ use Rattle.xm_model.specs.declared.memory.OutOfMemory.{OutOfMemory}
 use Rattle.xm_model.specs.ListView.{ListView}
 use Rattle.xm_proof.specs.Argument.{Argument, Refutation, refutation_of}
 use Rattle.xm_proof.specs.declared.proof.Goal.{Goal}
-use Rattle.xm_proof.specs.Form.{IsFormed}
-use Rattle.xm_proof.specs.OfNet.{IsGoalOf}
 use Rattle.xm_proof.specs.Valid.{AreLemmas}
 use Rattle.xm_proof.specs.declared.verdict.Verdict.TheVariants as verdict
 use Rattle.xm_proof_reader.specs.Known.{Known, known_by}

@@ -1,12 +1,12 @@
 -- What the top call says, from how the call that the words make ended, and from the status that was concluded.
-use Rattle.std.proofs.Common.{◌≡◌, ◌≢◌, ◌⊎◌, inl, inr, ℕ, true, false, Option, Some, None, Result, Ok, Err, refl, sym, ap, ◌∙◌, subst}
+use Rattle.std.proofs.Common.{◌≡◌, ◌⊎◌, ℕ, true, false, Option, Some, Result, Ok, Err, refl, sym, ap, ◌∙◌, subst}
 use Rattle.xm_commands.proofs.Calls.{call_quiet, call_read, call_read_unharmed, call_read_within, call_too_long, call_unknown, call_unread}
 use Rattle.xm_commands.proofs.Calls.{call_unwritten, call_words, call_write, call_write_unharmed, done_called, done_read_unharmed, done_unread}
-use Rattle.xm_commands.proofs.Calls.{done_write_unharmed, generated_ends, generated_front, generated_memory, made, obeyed}
+use Rattle.xm_commands.proofs.Calls.{done_write_unharmed, drawn_as, drawn_ends, drawn_front, drawn_memory, obeyed}
 use Rattle.xm_commands.proofs.Whys.{done_complete, done_outcome, done_written, expected_done, expected_otherwise, refused_not_done, why_complete, why_front, why_known, why_memory}
 use Rattle.xm_commands.proofs.Whys.{why_not_done, why_refused, why_told}
 use Rattle.xm_commands.specs.Change.{Change}
-use Rattle.xm_commands.specs.Generating.{ends_generate}
+use Rattle.xm_commands.specs.Drawn.{ends_drawn}
 use Rattle.xm_commands.specs.Inner.CallEnded.{HasCalled, HasConcluded}
 use Rattle.xm_commands.specs.Inner.WhyEnded.{IsUnharmed, IsUntouched}
 use Rattle.xm_commands.specs.OneAnswer.{OneOutput, has_one_refusal}
@@ -34,7 +34,7 @@ done_no_input : (o : Outcome) → is_of_input (outcome_status o) ≡ false
 done_no_input outcome.Yes = refl
 done_no_input outcome.No = refl
 
-module _ {S K E : Type 0} (called : Option Call) (source : Change S) (sink : Change K) (err : Change E) (status : ℕ) (none : NoLoop) (exclusive : ExclusiveEnds) (one : OneOutput) where
+module _ {S K E : Type 0} (called : Option Call) (source : Change S) (sink : Change K) (err : Change E) (status : ℕ) (no_loop : NoLoop) (exclusive : ExclusiveEnds) (one : OneOutput) where
   served_done : (o : Outcome) → HasCalled called source sink (Ok o) → status ≡ outcome_status o → IsUntouched err → IsServed called source sink err status
   served_done o ended is quiet =
       let done : is_done status ≡ true = ap is_done is ∙ done_outcome o in record {
@@ -58,10 +58,10 @@ module _ {S K E : Type 0} (called : Option Call) (source : Change S) (sink : Cha
             let whole = obeyed source sink called it (Ok o) same ended in
             let alike = λ (determined : has_one_refusal it ≡ true). done_complete source sink (Some it) it o turned one bytes text determined whole.0 refl read output in
             subst (IsExpected it turned) (sym is) (expected_done it turned o alike);
-        generated = λ size seed same e. (made source sink called size seed (Ok o) same ended).1;
-        generated_front = λ size seed same e. absurd (not_done o status 7 is refl e);
-        generated_memory = λ size seed same e. absurd (not_done o status 9 is refl e);
-        generated_status = λ size seed same. ap ends_generate (is ∙ ap outcome_status (made source sink called size seed (Ok o) same ended).0);
+        drawn = λ it same none e. (drawn_as source sink called it (Ok o) same none ended).1;
+        drawn_front = λ it same none e. absurd (not_done o status 7 is refl e);
+        drawn_memory = λ it same none e. absurd (not_done o status 9 is refl e);
+        drawn_status = λ it same none. ap ends_drawn (is ∙ ap outcome_status (drawn_as source sink called it (Ok o) same none ended).0);
         silent = λ e. quiet;
         told = λ some other. absurd cc;
       }
@@ -89,12 +89,12 @@ module _ {S K E : Type 0} (called : Option Call) (source : Change S) (sink : Cha
     quiet = λ some not_write not_memory. call_quiet source sink called r ended (λ e. not_write (is ∙ e)) (λ e. not_memory (is ∙ e));
     complete = λ it turned bytes text same read within output no_read no_write.
         let why = obeyed source sink called it (Err r) same ended in
-        let ends = why_complete it source sink none exclusive bytes text turned read output within no_read no_write r why in
+        let ends = why_complete it source sink no_loop exclusive bytes text turned read output within no_read no_write r why in
         subst (IsExpected it turned) (sym is) (expected_otherwise it turned _ ends);
-    generated = λ size seed same e. absurd (why_not_done r outcome.Yes (sym is ∙ e));
-    generated_front = λ size seed same e. generated_front size seed sink r (made source sink called size seed (Err r) same ended) (sym is ∙ e);
-    generated_memory = λ size seed same e. generated_memory size seed sink r (made source sink called size seed (Err r) same ended) (sym is ∙ e);
-    generated_status = λ size seed same. ap ends_generate is ∙ generated_ends size seed sink r (made source sink called size seed (Err r) same ended);
+    drawn = λ it same none e. absurd (why_not_done r outcome.Yes (sym is ∙ e));
+    drawn_front = λ it same none e. drawn_front it sink r (drawn_as source sink called it (Err r) same none ended) (sym is ∙ e);
+    drawn_memory = λ it same none e. drawn_memory it sink r (drawn_as source sink called it (Err r) same none ended) (sym is ∙ e);
+    drawn_status = λ it same none. ap ends_drawn is ∙ drawn_ends it sink r (drawn_as source sink called it (Err r) same none ended);
     silent = λ e. absurd (let no = refused_not_done r in let same = ap is_done is in cc);
     told = λ some other.
         subst (λ (n : ℕ). Tells n err.bytes_before err.bytes_after err.faults_before err.faults_after) (sym is)

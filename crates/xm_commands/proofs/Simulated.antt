@@ -1,7 +1,7 @@
 -- What a simulation took and wrote, from the answers of the calls that took and wrote its parts.
-use Rattle.std.proofs.Common.{◌≡◌, ℕ, zero, suc, ◌+◌, ◌-◌, ◌*◌, ◌/◌, ◌<◌, ◌≤◌, true, false, cond, List, [], ◌∷◌, ◌++◌, length, map, replicate, take, drop, get_or, slice_get, Option, Some, None, Result, Ok, Err, inl, inr, refl, sym, ap, append_assoc, ◌∙◌, subst, arith}
+use Rattle.std.proofs.Common.{◌≡◌, ℕ, zero, suc, ◌+◌, ◌-◌, ◌*◌, ◌/◌, ◌<◌, ◌≤◌, true, false, List, [], ◌∷◌, ◌++◌, length, map, replicate, take, drop, get_or, slice_get, Option, Some, None, Result, Ok, inl, inr, refl, sym, ap, append_assoc, ◌∙◌, subst, arith}
 use Rattle.std.proofs.Math.Nat.{div-le_of_le-mul, mul-le-mul_right}
-use Rattle.std.proofs.lemmas.Bool.{cases_lt, cond-false, cond-true, eq-eqb, ne_eqb}
+use Rattle.std.proofs.lemmas.Bool.{cases_lt, eq-eqb, ne_eqb}
 use Rattle.std.proofs.lemmas.Grind.{flat_map-append}
 use Rattle.std.proofs.lemmas.List.{append-nil, length-map, length-replicate, map-append, take-append-drop, take_more}
 use Rattle.std.proofs.lemmas.Option.{slice_get-map, slice_get_within}
@@ -15,7 +15,7 @@ use Rattle.xm_commands.specs.Change.{Change}
 use Rattle.xm_commands.specs.Inner.Prepared.{IsPrepared}
 use Rattle.xm_commands.specs.Inner.Simulating.{AreInvariantLines, AreTaken}
 use Rattle.xm_commands.specs.Inner.WhyEnded.{HasAnswered, IsCause, IsUnharmed, IsWriteFault}
-use Rattle.xm_commands.specs.Output.{AreSnapCycles, HoldIn, IsOutput, IsWatchedText, of_sim, of_watched, snap_lines}
+use Rattle.xm_commands.specs.Output.{AreSnapCycles, HoldIn, IsOutput, of_sim, of_watched, snap_lines}
 use Rattle.xm_commands.specs.declared.command.Command.TheVariants as command
 use Rattle.xm_commands.specs.declared.command.Outcome.{Outcome}
 use Rattle.xm_commands.specs.declared.command.Outcome.TheVariants as outcome
@@ -30,7 +30,6 @@ use Rattle.xm_io.specs.Lemmas.Fronts.{appends_nothing, front_more, on_err_goes, 
 use Rattle.xm_model.specs.Component.{Content}
 use Rattle.xm_model.specs.Naming.{Naming, naming_of}
 use Rattle.xm_model.specs.Net.{Network}
-use Rattle.xm_model.specs.Signals.{Signals}
 use Rattle.xm_order.specs.Lemmas.Items.{get-replicate}
 use Rattle.xm_parts.specs.declared.row.Snapshot.{Snapshot}
 use Rattle.xm_report.specs.Invariants.{invariant_lines}

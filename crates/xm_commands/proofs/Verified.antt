@@ -21,7 +21,6 @@ use Rattle.xm_flow.specs.FlowRows.{Flow}
 use Rattle.xm_lits.specs.Repeating.{IsFair, IsRepeating}
 use Rattle.xm_model.specs.Naming.{Naming, naming_of}
 use Rattle.xm_model.specs.Net.{Network}
-use Rattle.xm_netlist.specs.Doc.{Doc}
 use Rattle.xm_persist.specs.Rights.{AllGranted, IsFirstUngranted}
 use Rattle.xm_persist.specs.declared.fault.PersistFault.{PersistFault}
 use Rattle.xm_persist.specs.declared.fault.PersistFault.TheVariants as faults

@@ -2,7 +2,7 @@
 use Rattle.std.specs.Prelude.{◌≡◌, ◌≢◌, ◌⊎◌, ◌≤◌, ℕ, true, false, List, length, Option, Some, None}
 use Rattle.xm_commands.specs.Calls.{reads_document}
 use Rattle.xm_commands.specs.Change.{Change}
-use Rattle.xm_commands.specs.Generating.{PrintsGenerated, PrintsGeneratedFront, ends_generate}
+use Rattle.xm_commands.specs.Drawn.{PrintsDrawn, PrintsDrawnFront, ends_drawn}
 use Rattle.xm_commands.specs.Output.{IsOutput}
 use Rattle.xm_commands.specs.Status.{IsExpected, IsRefused, Prints, PrintsFront, Tells, is_done, is_of_input, is_status, most_bytes}
 use Rattle.xm_commands.specs.Status.{outcome_status}
@@ -42,13 +42,13 @@ pub record IsServed {S K E : Type 0} (called : Option Call) (source : Change S) 
       → source.bytes_before ≡ Some bytes → length bytes ≤ most_bytes → IsOutput bytes command turned text
       → ¬ (Rose source.faults_before source.faults_after) → ¬ (Rose out.faults_before out.faults_after)
       → IsExpected command turned status
-  pub generated : (size seed : ℕ) → called ≡ Some (call.Generate size seed) → status ≡ 0
-      → PrintsGenerated size seed out.bytes_before out.bytes_after
-  pub generated_front : (size seed : ℕ) → called ≡ Some (call.Generate size seed) → status ≡ 7
-      → PrintsGeneratedFront size seed out.bytes_before out.bytes_after
-  pub generated_memory : (size seed : ℕ) → called ≡ Some (call.Generate size seed) → status ≡ 9
+  pub drawn : (it : Call) → called ≡ Some it → reads_document called ≡ false → status ≡ 0
+      → PrintsDrawn it out.bytes_before out.bytes_after
+  pub drawn_front : (it : Call) → called ≡ Some it → reads_document called ≡ false → status ≡ 7
+      → PrintsDrawnFront it out.bytes_before out.bytes_after
+  pub drawn_memory : (it : Call) → called ≡ Some it → reads_document called ≡ false → status ≡ 9
       → out.after ≡ out.before
-  pub generated_status : (size seed : ℕ) → called ≡ Some (call.Generate size seed) → ends_generate status ≡ true
+  pub drawn_status : (it : Call) → called ≡ Some it → reads_document called ≡ false → ends_drawn status ≡ true
   pub silent : is_done status ≡ true → err.after ≡ err.before
   pub told : is_done status ≡ false → is_of_input status ≡ false
       → Tells status err.bytes_before err.bytes_after err.faults_before err.faults_after

@@ -1,5 +1,5 @@
 -- The words that the program knows.
-use Rattle.std.specs.Prelude.{ℕ, List, [], ◌∷◌, if◌then◌else◌, Bool, true, false, Option, Some, None, codes, option_and_then, option_map}
+use Rattle.std.specs.Prelude.{ℕ, List, [], ◌∷◌, if◌then◌else◌, ◌||◌, Bool, true, false, Option, Some, None, codes, option_and_then, option_map}
 use Rattle.std.specs.Prelude.{unwrap_or}
 use Rattle.std.specs.Str.{bytes_eq}
 use Rattle.xm_commands.specs.declared.command.Command.{Command}
@@ -31,12 +31,18 @@ budget_of _ = 200000
 abbrev pub prove_in : List (List ℕ) → Option Command
 prove_in rest = option_map (λ values. command.Prove (budget_of values)) (options_in (budget_option ∷ []) rest)
 
--- the options of `sim`: in how many parts and by how many workers, both wanted, and how many snapshots
+-- in how many parts a run is simulated
+abbrev pub parts_option : LongOption
+parts_option = record { name = Parts; low = 1; high = 64; wanted = true }
+
+-- by how many workers
+abbrev pub workers_option : LongOption
+workers_option = record { name = Workers; low = 1; high = 64; wanted = true }
+
+-- the options of `sim`: parts and workers, both wanted, and how many snapshots
 abbrev pub simulation_options : List LongOption
 simulation_options =
-    record { name = Parts; low = 1; high = 64; wanted = true }
-    ∷ record { name = Workers; low = 1; high = 64; wanted = true }
-    ∷ record { name = Watch; low = 0; high = 10000; wanted = false } ∷ []
+    parts_option ∷ workers_option ∷ record { name = Watch; low = 0; high = 10000; wanted = false } ∷ []
 
 -- the simulation by the values of those options; it tells no snapshots where the words give no number
 abbrev pub simulation_of : List (Option ℕ) → Option Simulation
@@ -60,10 +66,17 @@ command_in (word ∷ rest) =
 abbrev pub command_of : Words → Option Command
 command_of words = command_in (texts_of words.words.items)
 
--- the first word is `sim`
-abbrev pub starts_with_sim : List (List ℕ) → Bool
-starts_with_sim [] = false
-starts_with_sim (word ∷ rest) = bytes_eq word (codes "sim")
+-- the first word is this one
+abbrev pub starts_with : List ℕ → List (List ℕ) → Bool
+starts_with name [] = false
+starts_with name (word ∷ rest) = bytes_eq word name
 
 abbrev pub is_sim : Words → Bool
-is_sim words = starts_with_sim (texts_of words.words.items)
+is_sim words = starts_with (codes "sim") (texts_of words.words.items)
+
+abbrev pub is_demo : Words → Bool
+is_demo words = starts_with (codes "demo") (texts_of words.words.items)
+
+-- what the words ask for starts workers
+abbrev pub starts_workers : Words → Bool
+starts_workers words = is_sim words || is_demo words

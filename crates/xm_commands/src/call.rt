@@ -3,8 +3,9 @@
 ghost use Rattle.std.specs.Prelude.{◌≡◌, IfOk, IfSome, false};
 ghost use Rattle.std.specs.Prelude.{option_and_then};
 ghost use Rattle.xm_commands.specs.Calls.{call_of, generate_options as wanted_options, generate_with};
+ghost use Rattle.xm_commands.specs.Calls.{seed_option as seed_wanted, size_option as size_wanted};
 ghost use Rattle.xm_commands.specs.Inner.CallEnded.{IsWithin};
-ghost use Rattle.xm_commands.specs.Words.{is_sim};
+ghost use Rattle.xm_commands.specs.Words.{is_demo, is_sim};
 ghost use Rattle.xm_model.specs.Naming.{texts_of};
 ghost use Rattle.xm_options.specs.Grammar.{AreWithin, options_in};
 
@@ -14,6 +15,16 @@ use xm_io::Words;
 use xm_model::{OutOfMemory, Text};
 use xm_options::{LongOption, OptionName, read_options};
 
+/// The document of a line of so many stations, drawn from this seed, and in how many parts and by how many workers its
+/// run is simulated.
+#[derive(Clone, Copy, PartialEq, Eq, Debug)]
+pub struct Demonstration {
+    pub size: u32,
+    pub seed: u64,
+    pub parts: u32,
+    pub workers: u32,
+}
+
 /// What the words ask for.
 #[derive(Clone, Copy, PartialEq, Eq, Debug)]
 pub enum Call {
@@ -21,26 +32,39 @@ pub enum Call {
     Obey(Command),
     /// The document of a line of so many stations, drawn from this seed. No document is read.
     Generate { size: u32, seed: u64 },
+    /// What is counted of the run of such a document. No document is read.
+    Demonstrate(Demonstration),
+}
+
+/// How many stations a line has.
+pub fn size_option() -> LongOption
+    ensures { result ≡ size_wanted }
+{
+    LongOption {
+        name: OptionName::Size,
+        low: 2,
+        high: 600,
+        wanted: true,
+    }
+}
+
+/// What its draws begin with.
+pub fn seed_option() -> LongOption
+    ensures { result ≡ seed_wanted }
+{
+    LongOption {
+        name: OptionName::Seed,
+        low: 0,
+        high: u64::MAX,
+        wanted: true,
+    }
 }
 
 /// The options of `gen`.
 fn generate_options() -> [LongOption; 2]
     ensures { result ≡ wanted_options }
 {
-    [
-        LongOption {
-            name: OptionName::Size,
-            low: 2,
-            high: 600,
-            wanted: true,
-        },
-        LongOption {
-            name: OptionName::Seed,
-            low: 0,
-            high: u64::MAX,
-            wanted: true,
-        },
-    ]
+    [size_option(), seed_option()]
 }
 
 /// The call that the values of these options make.
@@ -70,9 +94,10 @@ fn read_generate(alloc: Global, words: &[Text]) -> Result<Option<Call>, OutOfMem
     }
 }
 
-/// The call, other than of `sim`, that the words make, where they are words that the program knows.
+/// The call, other than of `sim` and `demo`, that the words make, where they are words that the program knows.
 pub fn read_call(alloc: Global, words: &Words) -> Result<Option<Call>, OutOfMemory>
-    requires { is_sim words.now ≡ false }
+    requires sim { is_sim words.now ≡ false }
+    requires demo { is_demo words.now ≡ false }
     ensures exact { IfOk result (λ called. called ≡ call_of words.now) }
     ensures within { IfOk result (λ called. IfSome called IsWithin) }
 {

@@ -3,7 +3,8 @@
 ghost use Rattle.std.specs.Prelude.{◌≡◌, ◌∷◌, IfOk, IfSome, codes, false};
 ghost use Rattle.std.specs.Str.{bytes_eq};
 ghost use Rattle.xm_commands.specs.Inner.Plain.{IsPlain};
-ghost use Rattle.xm_commands.specs.Words.{command_in, command_named, command_of, is_sim as is_sim_of};
+ghost use Rattle.xm_commands.specs.Words.{command_in, command_named, command_of, is_demo as is_demo_of, is_sim as is_sim_of};
+ghost use Rattle.xm_commands.specs.Words.{starts_with as starts_with_name, starts_workers as starts_workers_of};
 ghost use Rattle.xm_model.specs.Naming.{texts_of};
 
 use crate::budget::read_prove;
@@ -64,14 +65,35 @@ fn is_word(word: &[u8], it: &[u8]) -> bool
     word == it
 }
 
+/// Whether the first word is this one.
+fn starts_with(words: &Words, name: &[u8]) -> bool
+    ensures { result ≡ starts_with_name name.now (texts_of words.now.words.items) }
+{
+    match words.words.as_slice() {
+        [word, ..] => is_word(word.as_bytes(), name),
+        [] => false,
+    }
+}
+
 /// Whether the first word is `sim`.
 pub fn is_sim(words: &Words) -> bool
     ensures { result ≡ is_sim_of words.now }
 {
-    match words.words.as_slice() {
-        [word, ..] => is_word(word.as_bytes(), b"sim"),
-        [] => false,
-    }
+    starts_with(words, b"sim")
+}
+
+/// Whether the first word is `demo`.
+fn is_demo(words: &Words) -> bool
+    ensures { result ≡ is_demo_of words.now }
+{
+    starts_with(words, b"demo")
+}
+
+/// Whether what the words ask for starts workers: the first word is `sim` or `demo`.
+pub fn starts_workers(words: &Words) -> bool
+    ensures { result ≡ starts_workers_of words.now }
+{
+    is_sim(words) || is_demo(words)
 }
 
 /// The command, other than `sim`, that a first word and those behind it call.

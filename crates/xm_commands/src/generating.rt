@@ -2,7 +2,8 @@
 
 ghost use Rattle.std.specs.Prelude.{◌≤◌};
 ghost use Rattle.xm_commands.specs.Change.{change};
-ghost use Rattle.xm_commands.specs.Inner.CallEnded.{HasGenerated};
+ghost use Rattle.xm_commands.specs.Inner.CallEnded.{HasDrawn};
+ghost use Rattle.xm_commands.specs.declared.call.Call.TheVariants as call;
 
 use crate::command::Outcome;
 use crate::refusal::{Ended, Refusal};
@@ -16,7 +17,7 @@ use xm_model::OutOfMemory;
 pub fn write_generated<K: Sink>(alloc: Global, size: u32, seed: u64, out: &mut K) -> Ended
     requires low { 2 ≤ size }
     requires high { size ≤ 600 }
-    ensures { HasGenerated size seed (change K.held K.faults out.old out.new) result }
+    ensures { HasDrawn (call.Generate size seed) (change K.held K.faults out.old out.new) result }
 {
     match gen_document(alloc, size, seed) {
         Ok(text) => write_text(out, &text, Outcome::Yes),

@@ -1,6 +1,7 @@
 //! Laws over the definitions. A caller has each as the clause of a call.
 
 ghost use Rattle.xm_commands.specs.OneAnswer.{NoOutputOfRefused, OneOutput, OneRefusal};
+ghost use Rattle.xm_commands.specs.OneDemonstration.{OneDemonstration};
 ghost use Rattle.xm_commands.specs.PrintedInvariants.{PrintedHold};
 ghost use Rattle.xm_commands.specs.ProvedText.{ProvedVerify};
 ghost use Rattle.xm_commands.specs.VerifiedProof.{VerifiedHold};
@@ -54,3 +55,10 @@ pub fn verified_nets_hold()
 pub fn proved_texts_verify()
     ensures { ProvedVerify }
 {}
+
+/// What `demo` prints hangs on the size and the seed alone.
+pub fn one_demonstration()
+    ensures { OneDemonstration }
+{
+    one_run();
+}

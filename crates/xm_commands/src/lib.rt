@@ -6,6 +6,9 @@ mod answer;
 mod budget;
 mod call;
 mod command;
+mod counting;
+mod demonstrating;
+mod demonstration_words;
 mod found;
 mod generating;
 mod invariants;
@@ -20,11 +23,11 @@ mod top;
 mod verifying;
 mod writing;
 
-pub use call::Call;
-pub use command::{Command, Outcome, Simulation, is_sim};
+pub use call::{Call, Demonstration};
+pub use command::{Command, Outcome, Simulation, starts_workers};
 pub use laws::{
-    no_output_of_refused, one_output, one_refusal, printed_invariants_hold, proved_texts_verify,
-    verified_nets_hold,
+    no_output_of_refused, one_demonstration, one_output, one_refusal, printed_invariants_hold,
+    proved_texts_verify, verified_nets_hold,
 };
 pub use refusal::{Refusal, refuse};
 pub use top::{plain, sim_main, xmas};

@@ -13,9 +13,13 @@ ghost use Rattle.xm_commands.specs.declared.command.Command.TheVariants as comma
 ghost use Rattle.xm_io.specs.Bytes.{AppendsFront};
 ghost use Rattle.xm_model.specs.Component.{Content, content_of};
 ghost use Rattle.xm_model.specs.Naming.{IsNamed, naming_of};
+ghost use Rattle.xm_model.specs.Run.{moves};
+ghost use Rattle.xm_model.specs.Signals.{Signals};
 ghost use Rattle.xm_report.specs.Snap.{snap_line};
 ghost use Rattle.xm_tape.specs.Reading.{tape_in};
 ghost use Rattle.xm_tape.specs.Taped.{Fits, cycles_of};
+ghost use Rattle.xm_trace.specs.RunTextState.{totals_of};
+ghost use Rattle.xm_trace.specs.Runs.{IsRunOf};
 ghost use Rattle.xm_trace.specs.Text.{IsTextOfRun};
 ghost use Rattle.xm_work.specs.Simulating.{cycle_of};
 
@@ -38,7 +42,7 @@ use xm_order::one_run;
 use xm_parts::{Parts, Snapshot};
 use xm_report::{invariant_lines, snap_text};
 use xm_tape::{Tape, read_tape};
-use xm_work::{SimFault, Whole, simulate};
+use xm_work::{SimFault, SimulatedRun, Whole, simulate};
 
 /// Writes the line of a snapshot.
 fn write_snapshot<K: Sink>(
@@ -84,8 +88,8 @@ fn write_snapshots<K: Sink>(
     Ok(())
 }
 
-/// Simulates the run of the tape, which has a cycle, in parts, writes its text, and gives the snapshots.
-fn write_parts<K: Sink, G: Gate, R: Threads + Wait + Sync>(
+/// Simulates the run of the tape, which has a cycle, in parts, writes its text, and gives its totals and snapshots.
+pub(crate) fn write_parts<K: Sink, G: Gate, R: Threads + Wait + Sync>(
     rt: &R,
     alloc: Global,
     it: &Simulation,
@@ -93,7 +97,7 @@ fn write_parts<K: Sink, G: Gate, R: Threads + Wait + Sync>(
     tape: &Tape,
     out: &mut K,
     gate: &G,
-) -> Result<Vec<Snapshot>, Refusal>
+) -> Result<SimulatedRun, Refusal>
     requires shared { IsShared it.now }
     requires named { IsNamed prepared.now.design.net (naming_of prepared.now.names) }
     requires fits { Fits prepared.now.design.net tape.now }
@@ -104,7 +108,11 @@ fn write_parts<K: Sink, G: Gate, R: Threads + Wait + Sync>(
         → OnErr result (AppendsFront (K.held out.old) (K.held out.new) text) }
     ensures unharmed { OnOk result (K.faults out.new ≡ K.faults out.old) }
     ensures cause { IfErr result (IsWriteFault (K.faults out.old) (K.faults out.new)) }
-    ensures taken { IfOk result (λ snapshots. AreTaken prepared.now.design.net tape.now it.now.watch snapshots.items) }
+    ensures taken { IfOk result (λ told.
+        AreTaken prepared.now.design.net tape.now it.now.watch told.snapshots.items) }
+    ensures totals { (s : ℕ → ℕ → Content) (φ : ℕ → Signals) → IsRunOf prepared.now.design.net tape.now s φ
+        → IfOk result (λ told. told.totals.items ≡ totals_of (λ c d. moves φ c d (cycles_of tape.now))
+        prepared.now.design.net.colours prepared.now.design.net.channels) }
 {
     let parts = Parts::balanced(alloc, &prepared.design, it.parts)?;
     let whole = Whole {
@@ -114,7 +122,7 @@ fn write_parts<K: Sink, G: Gate, R: Threads + Wait + Sync>(
         parts: &parts,
     };
     match simulate(rt, alloc, whole, it.workers, it.watch, out, gate) {
-        Ok(told) => Ok(told.snapshots),
+        Ok(told) => Ok(told),
         Err(SimFault::Write) => Err(Refusal::Write),
         Err(SimFault::OutOfMemory) => Err(Refusal::Memory),
     }
@@ -143,7 +151,8 @@ fn write_simulated<K: Sink, G: Gate, R: Threads + Wait + Sync>(
     ensures taken { IfOk result (λ snapshots. AreTaken prepared.now.design.net tape.now it.now.watch snapshots.items) }
 {
     if tape.cycles() > 0 {
-        return write_parts(rt, alloc, it, prepared, tape, out, gate);
+        let told = write_parts(rt, alloc, it, prepared, tape, out, gate)?;
+        return Ok(told.snapshots);
     }
     match write_run(alloc, &prepared.design, &prepared.names, tape, out) {
         Ok(_) => Ok(Vec::new(alloc)),

@@ -4,6 +4,7 @@ ghost use Rattle.std.specs.Prelude.{◌≡◌, IfOk, IfSome, Some, option_map, t
 ghost use Rattle.xm_commands.specs.Calls.{call_of};
 ghost use Rattle.xm_commands.specs.Inner.Simulating.{IsShared};
 ghost use Rattle.xm_commands.specs.Words.{is_sim, simulation_in, simulation_of, simulation_options as wanted_options};
+ghost use Rattle.xm_commands.specs.Words.{parts_option as parts_wanted, workers_option as workers_wanted};
 ghost use Rattle.xm_commands.specs.declared.call.Call.TheVariants as call;
 ghost use Rattle.xm_commands.specs.declared.command.Command.TheVariants as command;
 ghost use Rattle.xm_model.specs.Naming.{texts_of};
@@ -15,23 +16,37 @@ use xm_io::Words;
 use xm_model::{OutOfMemory, Text};
 use xm_options::{LongOption, OptionName, read_options};
 
+/// In how many parts a run is simulated.
+pub fn parts_option() -> LongOption
+    ensures { result ≡ parts_wanted }
+{
+    LongOption {
+        name: OptionName::Parts,
+        low: 1,
+        high: 64,
+        wanted: true,
+    }
+}
+
+/// By how many workers.
+pub fn workers_option() -> LongOption
+    ensures { result ≡ workers_wanted }
+{
+    LongOption {
+        name: OptionName::Workers,
+        low: 1,
+        high: 64,
+        wanted: true,
+    }
+}
+
 /// The options of `sim`.
 fn simulation_options() -> [LongOption; 3]
     ensures { result ≡ wanted_options }
 {
     [
-        LongOption {
-            name: OptionName::Parts,
-            low: 1,
-            high: 64,
-            wanted: true,
-        },
-        LongOption {
-            name: OptionName::Workers,
-            low: 1,
-            high: 64,
-            wanted: true,
-        },
+        parts_option(),
+        workers_option(),
         LongOption {
             name: OptionName::Watch,
             low: 0,

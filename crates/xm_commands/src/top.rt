@@ -8,12 +8,14 @@ ghost use Rattle.xm_commands.specs.Inner.Plain.{IsPlain};
 ghost use Rattle.xm_commands.specs.Inner.Simulating.{IsShared};
 ghost use Rattle.xm_commands.specs.Inner.WhyEnded.{HasEnded};
 ghost use Rattle.xm_commands.specs.Served.{IsServed};
-ghost use Rattle.xm_commands.specs.Words.{is_sim as starts_with_sim};
+ghost use Rattle.xm_commands.specs.Words.{is_sim as starts_with_sim, starts_workers as asks_for_workers};
 ghost use Rattle.xm_commands.specs.declared.command.Command.TheVariants as command;
 
 use crate::answer::answer;
 use crate::call::{Call, read_call};
-use crate::command::{Command, Outcome, Simulation, is_sim};
+use crate::command::{Command, Outcome, Simulation, is_sim, starts_workers};
+use crate::demonstrating::write_demonstration;
+use crate::demonstration_words::read_demonstration;
 use crate::generating::write_generated;
 use crate::laws::one_output;
 use crate::refusal::{Ended, Refusal, refuse};
@@ -54,7 +56,7 @@ fn obey<S: Source, K: Sink>(alloc: Global, command: Command, source: &mut S, out
     }
 }
 
-/// Makes the call.
+/// Makes the call, other than of `sim` and `demo`.
 fn make<S: Source, K: Sink>(alloc: Global, it: Call, source: &mut S, out: &mut K) -> Ended
     requires { IsWithin it }
     ensures { HasCalled (Some it) (change S.left S.faults source.old source.new)
@@ -63,17 +65,18 @@ fn make<S: Source, K: Sink>(alloc: Global, it: Call, source: &mut S, out: &mut K
     match it {
         Call::Obey(command) => obey(alloc, command, source, out),
         Call::Generate { size, seed } => write_generated(alloc, size, seed, out),
+        Call::Demonstrate(_) => unreachable!(),
     }
 }
 
-/// Makes the call, other than of `sim`, that the words make.
+/// Makes the call, other than of `sim` and `demo`, that the words make.
 fn obey_words<S: Source, K: Sink>(
     alloc: Global,
     words: &Words,
     source: &mut S,
     out: &mut K,
 ) -> Ended
-    requires { starts_with_sim words.now ≡ false }
+    requires { asks_for_workers words.now ≡ false }
     ensures { HasCalled (call_of words.now) (change S.left S.faults source.old source.new)
         (change K.held K.faults out.old out.new) result }
 {
@@ -123,6 +126,29 @@ fn simulate_words<S: Source, K: Sink, G: Gate, R: Threads + Wait + Sync>(
     }
 }
 
+/// Makes the call of `sim` or `demo` that the words make.
+fn work_words<S: Source, K: Sink, G: Gate, R: Threads + Wait + Sync>(
+    rt: &R,
+    alloc: Global,
+    words: &Words,
+    source: &mut S,
+    out: &mut K,
+    gate: &G,
+) -> Ended
+    requires { asks_for_workers words.now ≡ true }
+    ensures { HasCalled (call_of words.now) (change S.left S.faults source.old source.new)
+        (change K.held K.faults out.old out.new) result }
+{
+    if is_sim(words) {
+        return simulate_words(rt, alloc, words, source, out, gate);
+    }
+    match read_demonstration(alloc, words) {
+        Ok(Some(it)) => write_demonstration(rt, alloc, it, out, gate),
+        Ok(None) => Err(Refusal::Words),
+        Err(OutOfMemory) => Err(Refusal::Memory),
+    }
+}
+
 /// The status of how a call ended. A refusal writes its line to `err`.
 fn conclude<E: Sink>(ended: &Ended, err: &mut E) -> u8
     ensures { HasConcluded ended.now (change E.held E.faults err.old err.new) result }
@@ -134,8 +160,8 @@ fn conclude<E: Sink>(ended: &Ended, err: &mut E) -> u8
     }
 }
 
-/// Does what the words ask for, where the first is not `sim`. It answers as `xmas`, waits for nothing, and always
-/// returns.
+/// Does what the words ask for, where the first is neither `sim` nor `demo`. It answers as `xmas`, waits for nothing, and
+/// always returns.
 pub fn plain<S: Source, K: Sink, E: Sink>(
     alloc: Global,
     words: &Words,
@@ -143,7 +169,7 @@ pub fn plain<S: Source, K: Sink, E: Sink>(
     out: &mut K,
     err: &mut E,
 ) -> u8
-    requires { starts_with_sim words.now ≡ false }
+    requires { asks_for_workers words.now ≡ false }
     ensures { IsServed (call_of words.now) (change S.left S.faults source.old source.new)
         (change K.held K.faults out.old out.new) (change E.held E.faults err.old err.new) result }
 {
@@ -154,8 +180,8 @@ pub fn plain<S: Source, K: Sink, E: Sink>(
     conclude(&ended, err)
 }
 
-/// Does what the words ask for, where the first is `sim`. It answers as `xmas`, and returns if no wait of its threads
-/// lasts for ever.
+/// Does what the words ask for, where the first is `sim` or `demo`. It answers as `xmas`, and returns if no wait of its
+/// threads lasts for ever.
 pub fn sim_main<S: Source, K: Sink, E: Sink, G: Gate, R: Threads + Wait + Sync>(
     rt: &R,
     alloc: Global,
@@ -165,14 +191,14 @@ pub fn sim_main<S: Source, K: Sink, E: Sink, G: Gate, R: Threads + Wait + Sync>(
     err: &mut E,
     gate: &G,
 ) -> u8
-    requires { starts_with_sim words.now ≡ true }
+    requires { asks_for_workers words.now ≡ true }
     ensures { IsServed (call_of words.now) (change S.left S.faults source.old source.new)
         (change K.held K.faults out.old out.new) (change E.held E.faults err.old err.new) result }
 {
     no_loop();
     ends_exclude();
     one_output();
-    let ended = simulate_words(rt, alloc, words, source, out, gate);
+    let ended = work_words(rt, alloc, words, source, out, gate);
     conclude(&ended, err)
 }
 
@@ -184,8 +210,8 @@ pub fn sim_main<S: Source, K: Sink, E: Sink, G: Gate, R: Threads + Wait + Sync>(
 /// failed; 7 where the output failed; 8 where the elimination for `inv`, `prove`, and `sim` with snapshots, or the
 /// search's tableau, leaves 128 bits; 9 for want of memory; 10 where there are more than 16 MiB. Each status but 0 and 1
 /// writes its line to `err`, whose faults change no status. The source's faults rise with status 6 alone, and the
-/// output's with 7 alone. `gen` does not read the source, and answers 0, 7 or 9. `sim` starts threads, and tells the
-/// gate what they do.
+/// output's with 7 alone. `gen` and `demo` do not read the source, and answer 0, 7 or 9. `sim` and `demo` start threads,
+/// and tell the gate what they do.
 pub fn xmas<S: Source, K: Sink, E: Sink, G: Gate, R: Threads + Wait + Sync>(
     rt: &R,
     alloc: Global,
@@ -198,7 +224,7 @@ pub fn xmas<S: Source, K: Sink, E: Sink, G: Gate, R: Threads + Wait + Sync>(
     ensures { IsServed (call_of words.now) (change S.left S.faults source.old source.new)
         (change K.held K.faults out.old out.new) (change E.held E.faults err.old err.new) result }
 {
-    if is_sim(words) {
+    if starts_workers(words) {
         sim_main(rt, alloc, words, source, out, err, gate)
     } else {
         plain(alloc, words, source, out, err)

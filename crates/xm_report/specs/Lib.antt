@@ -1,4 +1,5 @@
 pub mod Check
+pub mod Demo
 pub mod Invariants
 pub mod Lines
 pub mod Search

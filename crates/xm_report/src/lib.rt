@@ -1,8 +1,9 @@
-//! Printed texts: the text of a check, of invariants, of a verdict, of a snapshot and of what a search finds, and the lines of
-//! error.
+//! Printed texts: the text of a check, of invariants, of a verdict, of a snapshot, of what a search finds and of a
+//! demonstration, and the lines of error.
 #![tactic(auto)]
 
 mod check;
+mod demo;
 mod invariants;
 mod lines;
 mod pieces;
@@ -11,6 +12,7 @@ mod snap;
 mod verdict;
 
 pub use check::check_text;
+pub use demo::{RunCounts, demo_text};
 pub use invariants::{invariant_lines, invariant_text};
 pub use lines::{
     colour_line, document_line, form_line, loop_line, overflow_line, persistency_line, pivots_line,

@@ -1,6 +1,7 @@
 //! A suite for each of them, the documents of the top call, and helpers.
 
 mod commands;
+mod demonstrations;
 mod documents;
 mod gates;
 mod generated;

@@ -1,11 +1,12 @@
 -- Inner: how a call ended.
-use Rattle.std.specs.Prelude.{◌≡◌, ◌≤◌, ℕ, Option, Some, None, Result, Ok, Err}
-use Rattle.xm_commands.specs.Generating.{PrintsGenerated, PrintsGeneratedFront}
+use Rattle.std.specs.Prelude.{◌≡◌, ◌≤◌, ◌<◌, ◌^◌, ℕ, Option, Some, None, Result, Ok, Err}
+use Rattle.xm_commands.specs.Drawn.{PrintsDrawn, PrintsDrawnFront}
 use Rattle.xm_commands.specs.Inner.Plain.{IsPlain}
 use Rattle.xm_commands.specs.Change.{Change}
 use Rattle.xm_commands.specs.Inner.WhyEnded.{HasEnded, IsUnharmed, IsUntouched}
 use Rattle.xm_commands.specs.declared.call.Call.{Call}
 use Rattle.xm_commands.specs.declared.call.Call.TheVariants as call
+use Rattle.xm_commands.specs.declared.call.Demonstration.{Demonstration}
 use Rattle.xm_commands.specs.declared.command.Outcome.{Outcome}
 use Rattle.xm_commands.specs.declared.command.Outcome.TheVariants as outcome
 use Rattle.xm_commands.specs.declared.refusal.Refusal.{Refusal}
@@ -19,23 +20,30 @@ use Rattle.xm_model.specs.ListView.{ListView}
 abbrev pub IsWithin : Call → Type 0
 IsWithin (call.Obey command) = IsPlain command
 IsWithin (call.Generate size seed) = (2 ≤ size) × (size ≤ 600)
+IsWithin (call.Demonstrate it) = ⊥
 
--- how the document of a line was written
-abbrev pub HasGenerated : {K : Type 0} → ℕ → ℕ → Change K → Result Outcome Refusal → Type 0
-HasGenerated size seed sink (Ok turned) =
-    (turned ≡ outcome.Yes) × PrintsGenerated size seed sink.bytes_before sink.bytes_after × IsUnharmed sink
-HasGenerated size seed sink (Err refusal.Write) =
-    Rose sink.faults_before sink.faults_after
-    × PrintsGeneratedFront size seed sink.bytes_before sink.bytes_after
-HasGenerated size seed sink (Err refusal.Memory) = IsUntouched sink × IsUnharmed sink
-HasGenerated size seed sink (Err _) = ⊥
+-- it has a line of 2 to 600 stations, as many parts and workers as it may have, and a seed of 64 bits
+abbrev pub IsDemonstrable : Demonstration → Type 0
+IsDemonstrable it =
+    (2 ≤ it.size) × (it.size ≤ 600) × (1 ≤ it.parts) × (it.parts ≤ 64) × (it.workers ≤ 64) × (it.seed < 2 ^ 64)
+
+-- how the text of a call that reads no document was written
+abbrev pub HasDrawn : {K : Type 0} → Call → Change K → Result Outcome Refusal → Type 0
+HasDrawn it sink (Ok turned) =
+    (turned ≡ outcome.Yes) × PrintsDrawn it sink.bytes_before sink.bytes_after × IsUnharmed sink
+HasDrawn it sink (Err refusal.Write) =
+    Rose sink.faults_before sink.faults_after × PrintsDrawnFront it sink.bytes_before sink.bytes_after
+HasDrawn it sink (Err refusal.Memory) = IsUntouched sink × IsUnharmed sink
+HasDrawn it sink (Err _) = ⊥
 
 -- how the call ended that the words make, if any: only a command reads the source
 abbrev pub HasCalled : {S K : Type 0} → Option Call → Change S → Change K → Result Outcome Refusal → Type 0
 HasCalled None source sink ended = HasEnded None source sink ended
 HasCalled (Some (call.Obey command)) source sink ended = HasEnded (Some command) source sink ended
 HasCalled (Some (call.Generate size seed)) source sink ended =
-    HasGenerated size seed sink ended × IsUntouched source × IsUnharmed source
+    HasDrawn (call.Generate size seed) sink ended × IsUntouched source × IsUnharmed source
+HasCalled (Some (call.Demonstrate it)) source sink ended =
+    HasDrawn (call.Demonstrate it) sink ended × IsUntouched source × IsUnharmed source
 
 -- the bytes of a document were read, or why they were not
 abbrev pub HasRead : {S : Type 0} → Change S → Result (ListView ℕ) Refusal → Type 0

@@ -1,7 +1,7 @@
 //! Texts of pieces, texts that are just what is expected, the words of a line, and their status.
 
 use std::alloc::Global;
-use xm_commands::{is_sim, plain};
+use xm_commands::{plain, starts_workers};
 use xm_io::{MemSink, Source, Words};
 use xm_model::{List, OutOfMemory, Text};
 
@@ -28,7 +28,7 @@ pub fn words_in(alloc: Global, line: &str) -> Result<List<Text>, OutOfMemory> {
     Ok(words)
 }
 
-/// The status for words of which the first is not `sim`; there is none for others.
+/// The status for words of which the first is neither `sim` nor `demo`; there is none for others.
 pub fn plain_status<S: Source>(
     alloc: Global,
     words: &Words,
@@ -36,7 +36,7 @@ pub fn plain_status<S: Source>(
     out: &mut MemSink,
     err: &mut MemSink,
 ) -> Option<u8> {
-    if is_sim(words) {
+    if starts_workers(words) {
         return None;
     }
     Some(plain(alloc, words, source, out, err))

@@ -73,7 +73,7 @@ pub fn writes_run<G: Gate, R: Threads + Wait + Sync>(
     }
 }
 
-fn gives<R: Threads + Wait + Sync>(
+pub fn gives<R: Threads + Wait + Sync>(
     rt: &R,
     alloc: Global,
     line: &str,
@@ -88,7 +88,7 @@ fn gives<R: Threads + Wait + Sync>(
 }
 
 /// Whether the words of this line, with the document, have this answer.
-fn is_simulated<R: Threads + Wait + Sync>(
+pub fn is_simulated<R: Threads + Wait + Sync>(
     rt: &R,
     alloc: Global,
     line: &str,

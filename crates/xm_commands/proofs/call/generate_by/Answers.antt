@@ -1,6 +1,5 @@
-use Rattle.std.proofs.Common.{rules, ◌≡◌, ◌≤◌, ℕ, Some, arith}
+use Rattle.std.proofs.Common.{rules, arith}
 use Rattle.xm_commands.proofs.Calls.{generated_within}
-use Rattle.xm_commands.specs.Calls.{generate_with}
 use Rattle.xm_commands.specs.declared.call.Call.TheVariants as call
 use Rattle.xm_commands.proofs.call.generate_by.Goals as goal
 

@@ -1,6 +1,5 @@
-use Rattle.std.proofs.Common.{◌≡◌, subst, sym}
+use Rattle.std.proofs.Common.{subst, sym}
 use Rattle.serde_json.specs.View.{view}
-use Rattle.xm_netlist.specs.Doc.{Doc}
 use Rattle.xm_netlist.specs.Documented.{doc_of}
 use Rattle.xm_netlist.specs.Valid.{IsValid}
 use Rattle.xm_commands.proofs.Proving.{again_by, text_by, valid_with}

@@ -1,4 +1,3 @@
-use Rattle.std.proofs.Common.{inl, refl}
 use Rattle.xm_commands.proofs.Proving.{can_be_written, proof_output}
 use Rattle.xm_commands.proofs.Written.{written}
 use Rattle.xm_commands.specs.declared.command.Command.TheVariants as command

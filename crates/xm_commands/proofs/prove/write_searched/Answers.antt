@@ -4,7 +4,7 @@ use Rattle.xm_commands.proofs.Refusing.{refused_cause}
 use Rattle.xm_commands.specs.declared.command.Command.TheVariants as command
 use Rattle.xm_flow.specs.Holding.{pair_count, queue_pair_count}
 use Rattle.xm_flow.specs.ValidLemma.{lemma_of}
-use Rattle.std.proofs.Common.{◌≤◌, ℕ, subst, length}
+use Rattle.std.proofs.Common.{◌≤◌, ℕ, subst}
 use Rattle.std.proofs.lemmas.List.{length-map}
 use Rattle.xm_commands.proofs.prove.write_searched.Goals as goal
 

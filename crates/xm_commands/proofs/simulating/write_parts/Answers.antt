@@ -1,4 +1,3 @@
-use Rattle.std.proofs.Common.{arith}
 use Rattle.xm_commands.proofs.Simulated.{taken}
 use Rattle.xm_work.specs.Simulating.{is_snapshot_of}
 use Rattle.xm_commands.proofs.simulating.write_parts.Goals as goal

@@ -1,4 +1,3 @@
-use Rattle.std.proofs.Common.{ap, rules}
 use Rattle.xm_commands.proofs.Shares.{simulation_read}
 use Rattle.xm_commands.proofs.simulation_words.read_simulation.Goals as goal
 

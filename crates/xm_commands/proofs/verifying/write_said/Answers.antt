@@ -1,7 +1,6 @@
 use Rattle.std.proofs.Common.{inl, refl}
 use Rattle.xm_commands.proofs.Verified.{said_printed}
 use Rattle.xm_commands.proofs.Written.{written}
-use Rattle.xm_commands.specs.Output.{outcome_of}
 use Rattle.xm_commands.specs.declared.command.Command.TheVariants as command
 use Rattle.xm_commands.proofs.verifying.write_said.Goals as goal
 
