@@ -52,8 +52,8 @@ are_lemmas it rows (l ∷ ls) valid fit = (
 )
 
 -- what is said of a proof with these lemmas is said of its own, which are the same
-pub full_own : (it : Designed) (lemmas : List Lemma) (p : Argument) → IsFull it lemmas p → IsFull it p.lemmas p
-full_own it lemmas p full = subst (λ (ls : List Lemma). IsFull it ls p) (sym full.form.cites) full
+pub full_own : (it : Designed) (lemmas : List Lemma) (budget : ℕ) (p : Argument) → IsFull it lemmas budget p → IsFull it p.lemmas budget p
+full_own it lemmas budget p full = subst (λ (ls : List Lemma). IsFull it ls budget p) (sym full.form.cites) full
 
 pub spent_own : (it : Designed) (lemmas : List Lemma) (budget : ℕ) (p : Argument) (nodes pivots : ℕ) → IsSpent it lemmas budget p nodes pivots → IsSpent it p.lemmas budget p nodes pivots
 spent_own it lemmas budget p nodes pivots spent = subst (λ (ls : List Lemma). IsSpent it ls budget p nodes pivots) (sym spent.form.cites) spent
@@ -174,7 +174,7 @@ module _ (bytes : List ℕ) (it : Prepared) (is : IsPrepared bytes it) where
         proof = ap₂ (λ (names : Naming) (v : Data). proof_in (known_by it.design names) (Some v)) (sym is.names) (sym e) ∙ of.again;
       }
 
-  pub proof_output : (budget : ℕ) (p : Argument) (value : Data) (text : List ℕ) → AreCited it.design p.lemmas → IsFull it.design p.lemmas p → IsValueOf (known_in it) p value
+  pub proof_output : (budget : ℕ) (p : Argument) (value : Data) (text : List ℕ) → AreCited it.design p.lemmas → IsFull it.design p.lemmas budget p → IsValueOf (known_in it) p value
       → text ≡ text_of (with_proof is.doc value) → document_in text ≡ Ok (with_proof is.doc value) → IsOutput bytes (command.Prove budget) outcome.Yes text
   proof_output budget p value text cited full of same again =
       let found = cited.searched.invariants in
@@ -183,7 +183,7 @@ module _ (bytes : List ℕ) (it : Prepared) (is : IsPrepared bytes it) where
         has_flow = found.has_flow;
         is_proof = full.proof found.rows.rows (are_lemmas it.design found.rows.rows p.lemmas found.basis.valid found.left.tested);
       } in
-      of_prove is.doc it.design budget p.lemmas outcome.Yes text is.read is.design cited.searched (a_proof p text proved (proof_text_of p value text of same again))
+      of_prove is.doc it.design budget p.lemmas outcome.Yes text is.read is.design cited.searched (a_proof p text proved full.paid (proof_text_of p value text of same again))
 
   pub open_output : (budget : ℕ) (lemmas : List Lemma) (goal : Lit) (lits : List Lit) (denominator : ℤ) (counts : List ℤ) (text : List ℕ) → IsSearched it.design lemmas
       → IsOpen it.design lemmas goal lits denominator counts → text ≡ open_text (naming_of it.names) it.design goal lits counts denominator → IsOutput bytes (command.Prove budget) outcome.No text
@@ -205,7 +205,7 @@ pub proved_verify : ProvedVerify
 proved_verify bytes text budget output = by_output output refl where
   by_found : {budget : ℕ} {doc : Doc} {design : Designed} {lemmas : List Lemma} {turned : Outcome} {said : List ℕ} → IsDesignOf doc design → IsSearched design lemmas → Finds budget doc design lemmas turned said
       → turned ≡ outcome.Yes → IsOutput said command.Verify outcome.Yes (verdict_text verdict.Yes)
-  by_found {doc = doc} {design = design} is searched (a_proof p said proved has) turned_yes =
+  by_found {doc = doc} {design = design} is searched (a_proof p said proved paid has) turned_yes =
       of_verify (with_proof doc (data_of_proof doc design p)) design verdict.Yes has.read
       (record { net = is.net; designed = is.designed; allowed = is.allowed })
       (record { argument = p; proof = has.proof; granted = searched.granted; rows = proved.rows; has_flow = proved.has_flow; is_verdict = verdicts.valid proved.is_proof })

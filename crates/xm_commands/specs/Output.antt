@@ -39,7 +39,7 @@ use Rattle.xm_report.specs.Search.{open_text, spent_text}
 use Rattle.xm_report.specs.Snap.{snap_line}
 use Rattle.xm_report.specs.Verdict.{verdict_text}
 use Rattle.xm_rows.specs.Points.{Meets}
-use Rattle.xm_search.specs.Searched.{IsOpen, IsSpent}
+use Rattle.xm_search.specs.Searched.{IsOpen, IsSpent, IsWithinBudget}
 use Rattle.xm_tape.specs.Reading.{tape_in}
 use Rattle.xm_tape.specs.Taped.{Taped, cycles_of}
 use Rattle.xm_trace.specs.Runs.{IsRunOf}
@@ -116,8 +116,8 @@ pub record IsProved (design : Designed) (p : Argument) : Type 0 where
 -- What a search in so many nodes and pivots finds, and its text: the document with a proof, a candidate of a deadlock
 -- for the first goal that is not refuted, or that the budget is spent.
 pub data Finds (budget : ℕ) (doc : Doc) (design : Designed) (lemmas : List Lemma) : Outcome → List ℕ → Type 0 where
-  a_proof : (p : Argument) (text : List ℕ) → IsProved design p → HasProofText doc design p text
-      → Finds budget doc design lemmas outcome.Yes text
+  a_proof : (p : Argument) (text : List ℕ) → IsProved design p → IsWithinBudget design lemmas budget p.goals
+      → HasProofText doc design p text → Finds budget doc design lemmas outcome.Yes text
   a_candidate : (goal : Lit) (lits : List Lit) (denominator : ℤ) (counts : List ℤ)
       → IsOpen design lemmas goal lits denominator counts
       → Finds budget doc design lemmas outcome.No (open_text doc.names design goal lits counts denominator)
@@ -130,8 +130,8 @@ pub data Finds (budget : ℕ) (doc : Doc) (design : Designed) (lemmas : List Lem
 abbrev pub snap_lines : Naming → Designed → (ℕ → ℕ → Content) → List ℕ → List ℕ
 snap_lines names design s cycles = flat_map (λ t. snap_line names design t (s t)) cycles
 
--- the cycles of so many snapshots of a run of n cycles, none where it has none: the i-th is not before its least one, and
--- they never fall. So they are spread over the run, and the last is its last.
+-- The cycles of so many snapshots of a run of n cycles, none where it has none: the i-th is not before its least one, and
+-- they never fall. Least cycles are spread over the run, and the last is its last; a snapshot may be later than its own.
 pub record AreSnapCycles (watch n : ℕ) (cycles : List ℕ) : Type 0 where
   pub many : length cycles ≡ (if n == 0 then 0 else watch)
   pub due : (i t : ℕ) → slice_get cycles i ≡ Some t → least_cycle watch n i ≤ t

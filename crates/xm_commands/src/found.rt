@@ -94,8 +94,9 @@ fn write_proved<K: Sink>(
 ) -> Ended
     requires prepared { IsPrepared bytes.now prepared.now }
     requires cited { AreCited prepared.now.design (argument_of proof.now).lemmas }
-    requires full { IsFull prepared.now.design (argument_of proof.now).lemmas (argument_of proof.now) }
+    requires form { IsOfForm prepared.now.design (argument_of proof.now).lemmas (argument_of proof.now) }
     ensures { (budget : ℕ)
+        → IsFull prepared.now.design (argument_of proof.now).lemmas budget (argument_of proof.now)
         → HasAnswered bytes.now (command.Prove budget) (change K.held K.faults out.old out.new) result }
 {
     names_tell();

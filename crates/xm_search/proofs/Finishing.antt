@@ -286,7 +286,7 @@ module _ (it : Designed) (is : IsDesigned it) (below : AreBelow it) (lemmas : Li
       }
 
   -- all goals are refuted
-  pub proved_all : (g : Progress) → IsProgress it lemmas order budget (length order) g → IsFull it lemmas (record { lemmas = lemmas; goals = refutations g })
+  pub proved_all : (g : Progress) → IsProgress it lemmas order budget (length order) g → IsFull it lemmas budget (record { lemmas = lemmas; goals = refutations g })
   proved_all g done =
       let gs = refutations g in
       let within = done.within in
@@ -294,6 +294,7 @@ module _ (it : Designed) (is : IsDesigned it) (below : AreBelow it) (lemmas : Li
       record {
         form = formed gs (length order) done.first (finished_grown it lemmas gs g.nodes g.pivots done.finished (few_goals gs (length order) done.first) (omega arith)) done.fits;
         order = subst (IsGoalOrder it) (sym lits) ordered;
+        paid = record { nodes = g.nodes; pivots = g.pivots; finished = done.finished; within = done.within };
         proof = λ rows valid. whole_proof it is lemmas order gs g.nodes g.pivots ordered lits done.finished rows valid;
       }
 

@@ -1,5 +1,5 @@
 -- What a search finds: a proof, a goal without a tree, or that the budget is spent.
-use Rattle.std.specs.Prelude.{◌≡◌, ℕ, ◌+◌, List, [], ◌∷◌, Some, ℤ, All, length, slice_get, take}
+use Rattle.std.specs.Prelude.{◌≡◌, ℕ, ◌+◌, ◌≤◌, List, [], ◌∷◌, Some, ℤ, All, length, slice_get, take}
 use Rattle.xm_design.specs.Designed.{Designed}
 use Rattle.xm_flow.specs.ValidLemma.{Lemma}
 use Rattle.xm_lits.specs.declared.literal.Lit.{Lit}
@@ -11,7 +11,7 @@ use Rattle.xm_proof.specs.Valid.{AreLemmas, GoalsRefuted, IsProof}
 use Rattle.xm_rows.specs.Row.{SparseRow}
 use Rattle.xm_search.specs.Candidate.{IsCandidate}
 use Rattle.xm_search.specs.GoalOrder.{IsGoalOrder}
-use Rattle.xm_search.specs.Partial.{IsPartial}
+use Rattle.xm_search.specs.Partial.{AreFinished, IsPartial}
 use Rattle.xm_search.specs.Pivots.{OverflowsOn}
 use Rattle.xm_search.specs.declared.found.Found.{Found}
 use Rattle.xm_search.specs.declared.found.Found.TheVariants as found
@@ -24,10 +24,18 @@ pub record IsOfForm (it : Designed) (lemmas : List Lemma) (p : Argument) : Type 
   pub formed : IsFormed p
   pub goals : All (IsGoalOf it.net) p.goals
 
--- the goals in order, each refuted; where the lemmas follow from flow rows, a valid proof
-pub record IsFull (it : Designed) (lemmas : List Lemma) (p : Argument) : Type 0 where
+-- trees for all goals, in at most so many nodes and pivots as the budget allows
+pub record IsWithinBudget (it : Designed) (lemmas : List Lemma) (budget : ℕ) (gs : List Refutation) : Type 0 where
+  pub nodes : ℕ
+  pub pivots : ℕ
+  pub finished : AreFinished it lemmas gs nodes pivots
+  pub within : nodes + pivots ≤ budget
+
+-- the goals in order, each refuted, within the budget; where the lemmas follow from flow rows, a valid proof
+pub record IsFull (it : Designed) (lemmas : List Lemma) (budget : ℕ) (p : Argument) : Type 0 where
   pub form : IsOfForm it lemmas p
   pub order : IsGoalOrder it (literals p.goals)
+  pub paid : IsWithinBudget it lemmas budget p.goals
   pub proof : (rows : List SparseRow) → AreLemmas it rows lemmas → IsProof it rows p
 
 -- a goal that has a candidate; each before it in the order is refuted
@@ -50,7 +58,7 @@ pub record IsSpent (it : Designed) (lemmas : List Lemma) (budget : ℕ) (p : Arg
   pub spent : nodes + pivots ≡ budget
 
 abbrev pub IsFound : Designed → List Lemma → ℕ → Found → Type 0
-IsFound it lemmas budget (found.Proved p) = IsFull it lemmas (argument_of p)
+IsFound it lemmas budget (found.Proved p) = IsFull it lemmas budget (argument_of p)
 IsFound it lemmas budget (found.Open c) = IsOpen it lemmas c.goal c.lits.items c.denominator c.counts.items
 IsFound it lemmas budget (found.Spent partial nodes pivots) =
     IsSpent it lemmas budget (argument_of partial) nodes pivots

@@ -18,13 +18,16 @@ write_proved-requires-clause-cited g c =
     let full = found_as c.args.prepared.now.design c.args.lemmas.now c.args.budget _ _ c.in-Proved.is c.requires.found in
     cited_own c.args.prepared.now.design (map lemma_of c.args.lemmas.now) (argument_of c.in-Proved.proof) full.form c.requires.cited
 
-pub write_proved-requires-clause-full : goal.write_proved-requires-clause-full
-write_proved-requires-clause-full g c =
-    full_own c.args.prepared.now.design (map lemma_of c.args.lemmas.now) (argument_of c.in-Proved.proof)
-    (found_as c.args.prepared.now.design c.args.lemmas.now c.args.budget _ _ c.in-Proved.is c.requires.found)
+pub write_proved-requires-clause-form : goal.write_proved-requires-clause-form
+write_proved-requires-clause-form g c =
+    (full_own c.args.prepared.now.design (map lemma_of c.args.lemmas.now) c.args.budget (argument_of c.in-Proved.proof)
+    (found_as c.args.prepared.now.design c.args.lemmas.now c.args.budget _ _ c.in-Proved.is c.requires.found)).form
 
 pub returns-in-Proved : goal.returns-in-Proved
-returns-in-Proved g c = c.write_proved.ensures c.args.budget
+returns-in-Proved g c =
+    c.write_proved.ensures c.args.budget
+    (full_own c.args.prepared.now.design (map lemma_of c.args.lemmas.now) c.args.budget (argument_of c.in-Proved.proof)
+    (found_as c.args.prepared.now.design c.args.lemmas.now c.args.budget _ _ c.in-Proved.is c.requires.found))
 
 pub write_open-requires-clause-counts : goal.write_open-requires-clause-counts
 write_open-requires-clause-counts g c = (found_as c.args.prepared.now.design c.args.lemmas.now c.args.budget _ _ c.in-Open.is c.requires.found).candidate.met.count
