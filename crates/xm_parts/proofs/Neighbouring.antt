@@ -3,6 +3,7 @@ use Rattle.std.proofs.Common.{◌≡◌, ℕ, zero, suc, ◌+◌, ◌<◌, true,
 use Rattle.std.specs.Prelude.{All, Option}
 use Rattle.std.proofs.lemmas.Bool.{cases_lt}
 use Rattle.std.proofs.lemmas.Option.{slice_get_within}
+use Rattle.xm_colours.specs.Family.{Rises}
 use Rattle.xm_model.specs.Component.{Component}
 use Rattle.xm_model.specs.Net.{HasPrim, IsNet, Network}
 use Rattle.xm_order.specs.Lemmas.Items.{get-append_left, get-push_last, push_cases}
@@ -15,6 +16,12 @@ use Rattle.xm_parts.specs.Near.{AreNear, ArePartsOf, HasCut}
 use Rattle.xm_parts.specs.Partition.{AreNeighbours, cuts_in, far_at, far_channel, is_cut}
 use Rattle.xm_parts.specs.declared.part.Cut.{Cut}
 
+-- one more that is greater than all
+rises_push : (xs : List ℕ) (q : ℕ) → Rises xs → ((k x : ℕ) → slice_get xs k ≡ Some x → x < q) → Rises (xs ++ q ∷ [])
+rises_push [] q rise below = tt
+rises_push (x ∷ []) q rise below = (below 0 x refl, tt)
+rises_push (x ∷ y ∷ ys) q rise below = (rise.0, rises_push (y ∷ ys) q rise.1 (λ k z at. below (suc k) z at))
+
 pub parts_push : (cuts : List Cut) (q : ℕ) (made : List ℕ) → HasCut cuts q → ArePartsOf cuts q made → ArePartsOf cuts (q + 1) (made ++ q ∷ [])
 parts_push cuts q made has before = record {
   near = λ k r at. elim (push_cases made q k r at) [ inl h ↦ before.near k r h | inr h ↦ subst (HasCut cuts) h.1 has ];
@@ -22,6 +29,11 @@ parts_push cuts q made has before = record {
     | inl less ↦ (let found = before.whole r less h in (found.0, get-append_left made (q ∷ []) found.0 r found.1))
     | inr more ↦ (let same : q ≡ r = omega arith in (length made, get-push_last made q ∙ ap Some same))
   ];
+  below = λ k r at. elim (push_cases made q k r at) [
+    | inl h ↦ (let less = before.below k r h in omega arith)
+    | inr h ↦ (let same = h.1 in omega arith)
+  ];
+  rise = rises_push made q before.rise before.below;
 }
 
 pub parts_skip : (cuts : List Cut) (q : ℕ) (made : List ℕ) → (HasCut cuts q → ⊥) → ArePartsOf cuts q made → ArePartsOf cuts (q + 1) made
@@ -31,6 +43,8 @@ parts_skip cuts q made none before = record {
     | inl less ↦ before.whole r less h
     | inr more ↦ absurd (let same : r ≡ q = omega arith in none (subst (HasCut cuts) same h))
   ];
+  below = λ k r at. (let less = before.below k r at in omega arith);
+  rise = before.rise;
 }
 
 queue_within : (net : Network) (label : ℕ → ℕ) (p i c : ℕ) → far_at net label p i ≡ Some c → i < length net.prims
@@ -66,6 +80,7 @@ module _ (net : Network) (label : ℕ → ℕ) (p : ℕ) (cuts : List Cut) (are 
   are_near parts of below = record {
     near = λ k q at. neighbour q (of.near k q at);
     whole = λ q near. of.whole q (below q near) (cut_of q near);
+    rise = of.rise;
   }
 
 -- a neighbour is one of the parts, and another one

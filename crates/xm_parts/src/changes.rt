@@ -1,6 +1,6 @@
 //! What differs between the rows of a part at two consecutive cycles.
 
-ghost use Rattle.std.specs.Prelude.{◌≡◌, ◌<◌, ◌≤◌, length, IfOk};
+ghost use Rattle.std.specs.Prelude.{◌≡◌, ◌<◌, ◌≤◌, [], length, IfOk};
 ghost use Rattle.xm_parts.specs.Kept.{label_at};
 ghost use Rattle.xm_parts.specs.Partition.{channels_in, prims_in};
 
@@ -47,6 +47,8 @@ impl Change {
             ≤ change.cells.room) }
         ensures wires { IfOk result (λ change. length (channels_in design.now.net (label_at parts.now.labels) p)
             ≤ change.wires.room) }
+        ensures no_cells { IfOk result (λ change. change.cells.items ≡ []) }
+        ensures no_wires { IfOk result (λ change. change.wires.items ≡ []) }
     {
         let _net = design.net();
         let part = parts.part(p);

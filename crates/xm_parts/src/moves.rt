@@ -1,6 +1,6 @@
 //! What moves on the far sides of a part's cut queues.
 
-ghost use Rattle.std.specs.Prelude.{◌≡◌, ◌<◌, ℕ, length, map, slice_get, IfOk, Some};
+ghost use Rattle.std.specs.Prelude.{◌≡◌, ◌<◌, ℕ, length, map, replicate, slice_get, IfOk, None, Some};
 ghost use Rattle.xm_model.specs.Views.{signals_of};
 ghost use Rattle.xm_model.specs.Next.{move};
 ghost use Rattle.xm_parts.specs.Far.{SetFrom};
@@ -25,14 +25,13 @@ impl FarMoves {
     ) -> Result<FarMoves, OutOfMemory>
         requires design { parts.now.design ≡ design.now }
         requires part { p < parts.now.count }
-        ensures { IfOk result (λ far. length far ≡ length (cuts_in design.now.net (label_at parts.now.labels) p)) }
+        ensures whole { IfOk result
+            (λ far. length far ≡ length (cuts_in design.now.net (label_at parts.now.labels) p)) }
+        ensures still { IfOk result (λ far. far ≡ replicate (length far) None) }
     {
+        let _net = design.net();
         let cuts = parts.part(p).cuts.as_slice();
-        let mut moves = List::new(alloc);
-        for k in 0..cuts.len() {
-            let _count = k;
-            moves.push(None)?;
-        }
+        let moves = List::filled(alloc, None, cuts.len() as u32)?;
         Ok(FarMoves { moves })
     }
 

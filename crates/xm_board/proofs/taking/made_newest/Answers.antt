@@ -13,7 +13,7 @@ returns-clause-fits c =
     record {
       row = roomy;
       spare = c.in_ok-spare.ensures.roomy (label_at c.args.parts.now.labels) c.args.p roomy;
-      far = c.in_ok-far.ensures;
+      far = c.in_ok-far.ensures.whole;
       tape = ap (λ (x : Place). x.tape) c.in_ok-choices.ensures;
       cycle = ap (λ (x : Place). x.cycle) c.in_ok-choices.ensures ∙ next;
     }
