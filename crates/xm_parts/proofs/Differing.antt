@@ -58,6 +58,7 @@ module _ (old new : List (ℕ × Content)) where
           before = s;
           was = ap (slice_get old) of.place_is ∙ was;
           is = ap (slice_get new) of.place_is ∙ is ∙ ap (λ (x : Content). with_prim x) of.after_is;
+          differs = λ same. of.differs (of.after_is ∙ same);
           plain = of.plain;
         })
       ];

@@ -52,17 +52,20 @@ abbrev pub IsPlainChange : CellChange → Content → Type 0
 IsPlainChange (change.Queue place popped pushed) before = Unit {0}
 IsPlainChange (change.Set place x) before = IsPlain before × IsPlain (content_of x)
 
+-- the change at this place makes another content of the older one
 pub record IsChangeOfCell (place : ℕ) (before after : Content) (c : CellChange) : Type 0 where
   pub place_is : place_of c ≡ place
   pub after_is : after ≡ changed c before
+  pub differs : after ≢ before
   pub plain : IsPlainChange c before
 
--- at its place the change makes the newer content of the older
+-- at its place the change makes the newer content of the older, which is another
 pub record IsCellChange (old new : List (ℕ × Content)) (c : CellChange) : Type 0 where
   pub prim : ℕ
   pub before : Content
   pub was : slice_get old (place_of c) ≡ Some (prim, before)
   pub is : slice_get new (place_of c) ≡ Some (prim, changed c before)
+  pub differs : changed c before ≢ before
   pub plain : IsPlainChange c before
 
 -- of the first n contents these have changed, each once
@@ -88,7 +91,7 @@ pub record AreWireChanges (old new : List Wire) (n : ℕ) (cs : List WireChange)
   pub rest : (i : ℕ) → i < n → ((k : ℕ) (c : WireChange) → slice_get cs k ≡ Some c → c.place ≢ i) →
       slice_get new i ≡ slice_get old i
 
--- the change makes the newer row of the older, and has exactly the wires that differ
+-- the change makes the newer row of the older, and has exactly the cells and the wires that differ
 pub record IsChange (old new : Row) (c : Change) : Type 0 where
   pub whole_cells : length new.cells ≡ length old.cells
   pub whole_wires : length new.wires ≡ length old.wires

@@ -1,24 +1,16 @@
 //! How two rows of a part differ.
 
-ghost use Rattle.std.specs.Prelude.{◌≡◌, ◌<◌, ◌≤◌, ◌^◌, ◌∷◌, ◌++◌, [], ℕ, false, length, IfNone, IfSome, IsTrue, List as Packets, None, Some};
-ghost use Rattle.xm_model.specs.Component.{content_of};
-ghost use Rattle.xm_parts.specs.Changing.{AreCellChanges, AreWireChanges, CanBecome, CanChange, CanChangeCells, IsChange, IsChangeOfCell, IsPlain, IsQueueStep, passed};
+ghost use Rattle.std.specs.Prelude.{◌≡◌, ◌<◌, ◌≤◌, ◌^◌, ◌∷◌, ◌++◌, [], ℕ, length, IfNone, IfSome, IsTrue, List as Items, Some};
+ghost use Rattle.xm_model.specs.Component.{Packets, content_of};
+ghost use Rattle.xm_parts.specs.Changing.{AreCellChanges, AreWireChanges, CanBecome, CanChange, CanChangeCells, IsChange, IsChangeOfCell, IsPlain, IsQueueStep};
 ghost use Rattle.xm_parts.specs.Rows.{contents_in, row_of};
-ghost use Rattle.xm_parts.specs.declared.changes.CellChange.TheVariants as change;
 
 use crate::changes::{CellChange, Change, WireChange};
 use crate::row::{PartRow, PrimCell};
 use xm_model::{Cell, List, Wire};
 
-/// What leaves a queue and what comes to it.
-#[derive(Clone, Copy)]
-pub struct QueueStep {
-    popped: bool,
-    pushed: Option<u8>,
-}
-
 fn last(packets: &[u8]) -> Option<u8>
-    ensures { (ps : Packets ℕ) (d : ℕ) → packets.now ≡ ps ++ d ∷ [] → result ≡ Some d }
+    ensures { (ps : Items ℕ) (d : ℕ) → packets.now ≡ ps ++ d ∷ [] → result ≡ Some d }
 {
     packets.last().copied()
 }
@@ -30,53 +22,33 @@ fn are_same(old: &[u8], new: &[u8]) -> bool
     old == new
 }
 
-/// The step from the older packets to the newer.
-fn queue_step(old: &[u8], new: &[u8]) -> QueueStep
+/// The change of a queue's cell, if it holds other packets.
+fn queue_change(place: u32, old: &[u8], new: &[u8]) -> Option<CellChange>
     requires { IsQueueStep old.now new.now }
-    ensures { passed result.popped result.pushed old.now ≡ new.now }
+    ensures none { IfNone result (Packets new.now ≡ Packets old.now) }
+    ensures some { IfSome result (IsChangeOfCell place (Packets old.now) (Packets new.now)) }
 {
-    if new.len() > old.len() {
-        return QueueStep {
-            popped: false,
-            pushed: last(new),
-        };
-    }
-    if new.len() < old.len() {
-        return QueueStep {
-            popped: true,
-            pushed: None,
-        };
-    }
     if are_same(old, new) {
-        return QueueStep {
-            popped: false,
-            pushed: None,
-        };
-    }
-    QueueStep {
-        popped: true,
-        pushed: last(new),
-    }
-}
-
-/// The change of a queue's cell, if it takes a step.
-fn queue_change(place: u32, step: QueueStep) -> Option<CellChange>
-    ensures none { IfNone result ((step.popped ≡ false) × (step.pushed ≡ None)) }
-    ensures some { IfSome result (λ c. c ≡ change.Queue place step.popped step.pushed) }
-{
-    if !step.popped && step.pushed.is_none() {
         return None;
     }
+    let popped = new.len() <= old.len();
+    let pushed = if new.len() < old.len() {
+        None
+    } else {
+        last(new)
+    };
     Some(CellChange::Queue {
         place,
-        popped: step.popped,
-        pushed: step.pushed,
+        popped,
+        pushed,
     })
 }
 
 /// Whether two cells, of which neither is a queue's, hold the same.
 fn is_same(old: &Cell, new: &Cell) -> bool
-    ensures { IsTrue result → content_of new.now ≡ content_of old.now }
+    requires { IsPlain (content_of old.now) }
+    ensures yes { IsTrue result → content_of new.now ≡ content_of old.now }
+    ensures no { content_of new.now ≡ content_of old.now → IsTrue result }
 {
     match (old, new) {
         (Cell::Pending(old), Cell::Pending(new)) => *old == *new,
@@ -122,7 +94,7 @@ fn cell_change(place: u32, old: &Cell, new: &Cell) -> Option<CellChange>
 {
     match (old, new) {
         (Cell::Packets(old), Cell::Packets(new)) => {
-            queue_change(place, queue_step(old.as_slice(), new.as_slice()))
+            queue_change(place, old.as_slice(), new.as_slice())
         }
         _ => plain_change(place, old, new),
     }
