@@ -154,7 +154,8 @@ impl<'a> Board<'a> {
         self.core.is_out(p)
     }
 
-    /// Takes every part in. What is posted or given back of its job from then on is stale.
+    /// Takes every part in. What is posted or given back of a job of before is stale then, unless its part is out
+    /// again at the same cycle: of these jobs the first that is posted counts, and the other is stale.
     pub fn recall(&mut self)
         ensures run { self.new.run ≡ self.old.run }
         ensures core { self.new.core ≡ recalled self.old.core }

@@ -49,7 +49,7 @@ pub trait Bench: Named {
         ensures run { Self.run self.new ≡ Self.run self.old }
         ensures floor { Self.floor_of self.old ≤ Self.floor_of self.new };
 
-    /// Takes in every part that is out. Its job is stale from then on.
+    /// Takes in every part that is out. A job of before is stale then, unless its part is out again at its cycle.
     fn recall(&mut self)
         ensures run { Self.run self.new ≡ Self.run self.old }
         ensures floor { Self.floor_of self.new ≡ Self.floor_of self.old };
