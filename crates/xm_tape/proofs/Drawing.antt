@@ -1,11 +1,14 @@
 -- The rows that a seed draws, and the numbers between them.
-use Rattle.std.proofs.Common.{◌≡◌, ℕ, zero, suc, ◌<◌, ◌+◌, ◌-◌, ◌*◌, ◌∙◌, List, [], ◌∷◌, ◌++◌, add-one, append_assoc, drop, drop-cons, get_or, length, map, refl, sym, ap, arith}
-use Rattle.xm_model.specs.Component.{Component, component_of}
-use Rattle.xm_model.specs.declared.primitive.Primitive.{Primitive}
+use Rattle.std.proofs.Common.{◌≡◌, ℕ, zero, suc, ◌<◌, ◌+◌, ◌-◌, ◌*◌, ◌∙◌, List, [], ◌∷◌, ◌++◌, add-one, append_assoc, drop, drop-cons, get_or, length, map, refl, sym, ap, ap₂, arith}
+use Rattle.xm_model.specs.Component.{Component, Fork, Function, Join, Merge, Queue, Sink, Source, Switch}
 use Rattle.xm_model.specs.declared.state.Choice.{Choice}
-use Rattle.std.proofs.lemmas.List.{get_or_append_left}
+use Rattle.std.proofs.lemmas.List.{get_or_append_left, length-map}
 use Rattle.xm_tape.specs.Taped.{Taped, cycles_of, rows_of}
-use Rattle.xm_tape.specs.Draws.{choice_drawn, next_number, number_after, row_drawn, rows_drawn}
+use Rattle.xm_tape.specs.Inner.Forms.{component_drawn, drawn_form, drawn_of}
+use Rattle.xm_tape.specs.declared.drawn.DrawnTape.{DrawnTape}
+use Rattle.xm_tape.specs.declared.drawn.Oracle.{Oracle}
+use Rattle.xm_tape.specs.Marks.{oracles_of}
+use Rattle.xm_tape.specs.Draws.{choice_drawn, next_number, number_after, row_drawn, rows_drawn, seeded_rows}
 
 pub number_after-add : (n m x : ℕ) → number_after (n + m) x ≡ number_after m (number_after n x)
 number_after-add zero m x = ap (λ (i : ℕ). number_after i x) (let e : zero + m ≡ m = omega arith in e)
@@ -34,16 +37,16 @@ row_at oracles (suc cycles) (suc t) x below =
     ∙ ap (row_drawn oracles) (sym (number_after-add w (t * w) x) ∙ ap (λ (i : ℕ). number_after i x) e)
 
 -- one more choice of a row
-pub drawn_more : (prims : List Primitive) (i number next : ℕ) (p : Primitive) (items new : List Choice) (choice : Choice) (whole : List Choice) → i < length prims → p ≡ get_or prims i p → next ≡ next_number number
-    → choice ≡ choice_drawn (component_of p) next → new ≡ items ++ choice ∷ [] → items ++ row_drawn (map component_of (drop i prims)) number ≡ whole
-    → new ++ row_drawn (map component_of (drop (i + 1) prims)) next ≡ whole
+pub drawn_more : (prims : List Oracle) (i number next : ℕ) (p : Oracle) (items new : List Choice) (choice : Choice) (whole : List Choice) → i < length prims → p ≡ get_or prims i p → next ≡ next_number number
+    → choice ≡ choice_drawn (component_drawn p) next → new ≡ items ++ choice ∷ [] → items ++ row_drawn (map component_drawn (drop i prims)) number ≡ whole
+    → new ++ row_drawn (map component_drawn (drop (i + 1) prims)) next ≡ whole
 drawn_more prims i number next p items new choice whole below is stepped chosen made so_far =
-    let split : drop i prims ≡ p ∷ drop (suc i) prims = drop-cons prims i p below ∙ ap (λ (q : Primitive). q ∷ drop (suc i) prims) (sym is) in
-    let rest = row_drawn (map component_of (drop (suc i) prims)) (next_number number) in
-    let drawn : choice ≡ choice_drawn (component_of p) (next_number number) = chosen ∙ ap (choice_drawn (component_of p)) stepped in
+    let split : drop i prims ≡ p ∷ drop (suc i) prims = drop-cons prims i p below ∙ ap (λ (q : Oracle). q ∷ drop (suc i) prims) (sym is) in
+    let rest = row_drawn (map component_drawn (drop (suc i) prims)) (next_number number) in
+    let drawn : choice ≡ choice_drawn (component_drawn p) (next_number number) = chosen ∙ ap (choice_drawn (component_drawn p)) stepped in
     rw (add-one, made, stepped) (append_assoc items (choice ∷ []) rest
     ∙ ap (λ (d : Choice). items ++ d ∷ rest) drawn
-    ∙ ap (λ (ps : List Primitive). items ++ row_drawn (map component_of ps) number) (sym split)
+    ∙ ap (λ (ps : List Oracle). items ++ row_drawn (map component_drawn ps) number) (sym split)
     ∙ so_far)
 
 -- the number after one more row
@@ -69,3 +72,35 @@ cycles_drawn oracles cycles x tape seen =
       sym many ∙ ap (λ (them : Taped). length them.stem) seen,
       all ∙ ap cycles_of seen,
     )
+
+-- ---- what is drawn does not depend on channels and modes
+
+same_choice : (m : Component) (x : ℕ) → choice_drawn (drawn_form m) x ≡ choice_drawn m x
+same_choice (Source out colours mode) x = refl
+same_choice (Sink input mode) x = refl
+same_choice (Queue input out capacity initial) x = refl
+same_choice (Function input out table) x = refl
+same_choice (Fork input a b ta tb) x = refl
+same_choice (Join a b out pass) x = refl
+same_choice (Switch input a b to_a) x = refl
+same_choice (Merge a b out) x = refl
+
+same_row : (ms : List Component) (x : ℕ) → row_drawn (map drawn_form ms) x ≡ row_drawn ms x
+same_row [] x = refl
+same_row (m ∷ ms) x = ap₂ (λ (c : Choice) (cs : List Choice). c ∷ cs) (same_choice m (next_number x)) (same_row ms (next_number x))
+
+pub same_rows : (ms : List Component) (cycles x : ℕ) → rows_drawn (map drawn_form ms) cycles x ≡ rows_drawn ms cycles x
+same_rows ms zero x = refl
+same_rows ms (suc cycles) x =
+    ap₂ (λ (r : List Choice) (rs : List (List Choice)). r ∷ rs) (same_row ms x)
+    (ap (λ (w : ℕ). rows_drawn (map drawn_form ms) cycles (number_after w x)) (length-map ms drawn_form) ∙ same_rows ms cycles (number_after (length ms) x))
+
+-- the rows of the tape that is kept for a seed
+pub seeded_as : (prims : List Component) (tape : DrawnTape) (cycles seed : ℕ) → map component_drawn tape.oracles.items ≡ map drawn_form (oracles_of prims) → tape.cycles ≡ cycles → tape.seed ≡ seed
+    → drawn_of tape ≡ record { stem = seeded_rows prims cycles seed; cycle = []; times = 0 }
+seeded_as prims tape cycles seed kept many from =
+    ap (λ (rows : List (List Choice)). as_tape rows)
+    (ap (λ (ms : List Component). rows_drawn ms tape.cycles tape.seed) kept ∙ same_rows (oracles_of prims) tape.cycles tape.seed
+    ∙ ap₂ (λ (n x : ℕ). rows_drawn (oracles_of prims) n x) many from) where
+      as_tape : List (List Choice) → Taped
+      as_tape rows = record { stem = rows; cycle = []; times = 0 }

@@ -2,16 +2,26 @@
 
 ghost use Rattle.std.specs.Prelude.{◌≡◌, [], ◌∷◌, ◌++◌, map, IfOk, OnOk};
 ghost use Rattle.xm_model.specs.Component.{component_of};
+ghost use Rattle.xm_tape.specs.Inner.Forms.{component_drawn, drawn_form};
 ghost use Rattle.xm_tape.specs.Marks.{oracles_of};
 
 use std::alloc::Global;
 use xm_design::Design;
 use xm_model::{List, OutOfMemory, Prim};
 
+/// What is drawn for a source or a sink: readiness, the one colour of a source or silence, or one of its colours or
+/// silence.
+#[derive(Drop)]
+pub enum Oracle {
+    Sink,
+    Single(u8),
+    Listed(List<u8>),
+}
+
 /// The choices of so many cycles, drawn from a seed for these sources and sinks. No row is kept.
 #[derive(Drop)]
 pub struct DrawnTape {
-    pub oracles: List<Prim>,
+    pub oracles: List<Oracle>,
     pub cycles: u32,
     pub seed: u64,
 }
@@ -26,30 +36,24 @@ fn copy_of(alloc: Global, colours: &[u8]) -> Result<List<u8>, OutOfMemory>
     Ok(copy)
 }
 
-/// Appends a copy of a source or a sink, and nothing for another primitive.
-fn push_oracle(alloc: Global, oracles: &mut List<Prim>, prim: &Prim) -> Result<(), OutOfMemory>
-    ensures { OnOk result (map component_of oracles.new.items
-        ≡ map component_of oracles.old.items ++ oracles_of (component_of prim.now ∷ [])) }
+/// Appends what is drawn for a source or a sink, and nothing for another primitive.
+fn push_oracle(alloc: Global, oracles: &mut List<Oracle>, prim: &Prim) -> Result<(), OutOfMemory>
+    ensures { OnOk result (map component_drawn oracles.new.items
+        ≡ map component_drawn oracles.old.items ++ map drawn_form (oracles_of (component_of prim.now ∷ []))) }
 {
     match prim {
-        Prim::Source { out, colours, mode } => {
-            let colours = copy_of(alloc, colours.as_slice())?;
-            oracles.push(Prim::Source {
-                out: *out,
-                colours,
-                mode: *mode,
-            })
-        }
-        Prim::Sink { input, mode } => oracles.push(Prim::Sink {
-            input: *input,
-            mode: *mode,
-        }),
+        Prim::Source { colours, .. } => match colours.as_slice() {
+            [colour] => oracles.push(Oracle::Single(*colour)),
+            colours => oracles.push(Oracle::Listed(copy_of(alloc, colours)?)),
+        },
+        Prim::Sink { .. } => oracles.push(Oracle::Sink),
         _ => Ok(()),
     }
 }
 
-fn oracles_copied(alloc: Global, prims: &[Prim]) -> Result<List<Prim>, OutOfMemory>
-    ensures { IfOk result (λ copies. map component_of copies.items ≡ oracles_of (map component_of prims.now)) }
+fn oracles_drawn(alloc: Global, prims: &[Prim]) -> Result<List<Oracle>, OutOfMemory>
+    ensures { IfOk result (λ oracles. map component_drawn oracles.items
+        ≡ map drawn_form (oracles_of (map component_of prims.now))) }
 {
     let mut oracles = List::new(alloc);
     for prim in prims {
@@ -66,11 +70,11 @@ pub fn drawn_tape(
     seed: u64,
 ) -> Result<DrawnTape, OutOfMemory>
     ensures oracles { IfOk result
-        (λ tape. map component_of tape.oracles.items ≡ oracles_of design.now.net.prims) }
+        (λ tape. map component_drawn tape.oracles.items ≡ map drawn_form (oracles_of design.now.net.prims)) }
     ensures cycles { IfOk result (λ tape. tape.cycles ≡ cycles) }
     ensures seed { IfOk result (λ tape. tape.seed ≡ seed) }
 {
-    let oracles = oracles_copied(alloc, design.net().prims().as_slice())?;
+    let oracles = oracles_drawn(alloc, design.net().prims().as_slice())?;
     Ok(DrawnTape {
         oracles,
         cycles,

@@ -1,10 +1,11 @@
 //! The rows of a seeded tape: draws of a linear congruential generator.
 
 ghost use Rattle.std.specs.Prelude.{◌≡◌, ◌+◌, ◌*◌, ◌<◌, length, map};
-ghost use Rattle.xm_model.specs.Component.{component_of};
 ghost use Rattle.xm_tape.specs.Draws as spec;
+ghost use Rattle.xm_tape.specs.Inner.Forms.{component_drawn};
 
-use xm_model::{Choice, Prim};
+use crate::drawn::Oracle;
+use xm_model::Choice;
 
 const MULTIPLIER: u64 = 6364136223846793005;
 
@@ -41,13 +42,17 @@ fn offer_drawn(colours: &[u8], number: u64) -> Choice
 }
 
 /// The choice that a number is for a source or a sink.
-fn choice_drawn(prim: &Prim, number: u64) -> Choice
-    ensures { result ≡ spec.choice_drawn (component_of prim.now) number }
+#[inline(always)]
+fn choice_drawn(oracle: &Oracle, number: u64) -> Choice
+    ensures { result ≡ spec.choice_drawn (component_drawn oracle.now) number }
 {
-    match prim {
-        Prim::Source { colours, .. } => offer_drawn(colours.as_slice(), number),
-        Prim::Sink { .. } => Choice::Ready(draw(number, 2) == 1),
-        _ => Choice::Offer(None),
+    match oracle {
+        Oracle::Sink => Choice::Ready(draw(number, 2) == 1),
+        Oracle::Single(colour) => match draw(number, 2) {
+            0 => Choice::Offer(None),
+            _ => Choice::Offer(Some(*colour)),
+        },
+        Oracle::Listed(colours) => offer_drawn(colours.as_slice(), number),
     }
 }
 
@@ -55,9 +60,9 @@ fn choice_drawn(prim: &Prim, number: u64) -> Choice
 /// within its one caller the compiler keeps the variables of this loop on the stack, which cost time in every
 /// cycle (measured with callgrind).
 #[inline(never)]
-pub fn draw_row(row: &mut [Choice], oracles: &[Prim], before: u64) -> u64
+pub fn draw_row(row: &mut [Choice], oracles: &[Oracle], before: u64) -> u64
     requires { length row.old ≡ length oracles.now }
-    ensures row { row.new ≡ spec.row_drawn (map component_of oracles.now) before }
+    ensures row { row.new ≡ spec.row_drawn (map component_drawn oracles.now) before }
     ensures number { result ≡ spec.number_after (length oracles.now) before }
 {
     let mut number = before;

@@ -1,7 +1,0 @@
-use Rattle.std.proofs.Common.{◌≡◌, ◌++◌, drop, map}
-use Rattle.xm_model.specs.Component.{component_of}
-use Rattle.xm_tape.specs.Marks.{oracles_of}
-use Rattle.xm_tape.proofs.drawn.oracles_copied.Given as goal
-
-abbrev pub invariant-loop-prim : goal.invariant-loop-prim
-invariant-loop-prim l = map component_of l.oracles.items ++ oracles_of (map component_of (drop l.prim-index l.prims)) ≡ oracles_of (map component_of l.prims)
