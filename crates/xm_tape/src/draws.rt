@@ -7,9 +7,11 @@ ghost use Rattle.xm_tape.specs.Inner.Forms.{component_drawn};
 use crate::drawn::Oracle;
 use xm_model::Choice;
 
-const MULTIPLIER: u64 = 6364136223846793005;
+/// What a number is multiplied by.
+pub const MULTIPLIER: u64 = 6364136223846793005;
 
-const INCREMENT: u64 = 1442695040888963407;
+/// What is added then.
+pub const INCREMENT: u64 = 1442695040888963407;
 
 /// The generator's next number.
 pub fn next_number(number: u64) -> u64

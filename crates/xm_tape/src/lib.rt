@@ -5,6 +5,7 @@ mod draft;
 mod drawn;
 mod draws;
 mod fault;
+mod leap;
 mod limits;
 mod marks;
 mod oracles;
