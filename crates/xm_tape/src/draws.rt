@@ -1,10 +1,13 @@
 //! The rows of a seeded tape: draws of a linear congruential generator.
 
-ghost use Rattle.std.specs.Prelude.{◌≡◌, ◌+◌, ◌*◌, ◌<◌, length, map};
+ghost use Rattle.std.specs.Prelude.{◌≡◌, ◌+◌, ◌*◌, ◌<◌, Bool, List as Wanted, length, map};
 ghost use Rattle.xm_tape.specs.Draws as spec;
 ghost use Rattle.xm_tape.specs.Inner.Forms.{component_drawn};
+ghost use Rattle.xm_tape.specs.Inner.Leaps.{AreStops};
+ghost use Rattle.xm_tape.specs.Place.{HasWanted};
 
 use crate::drawn::Oracle;
+use crate::leap::{Stops, after};
 use xm_model::Choice;
 
 /// What a number is multiplied by.
@@ -73,6 +76,26 @@ pub fn draw_row(row: &mut [Choice], oracles: &[Oracle], before: u64) -> u64
         row[k] = choice_drawn(&oracles[k], number);
     }
     number
+}
+
+/// Makes the choices at the stops of the row after a number, in place of others, and gives the number after the row.
+/// The time is linear in the stops.
+#[inline(never)]
+pub fn draw_stops(row: &mut [Choice], oracles: &[Oracle], stops: &Stops, before: u64) -> u64
+    requires wide { length row.old ≡ length oracles.now }
+    requires stops { (own : Wanted Bool) × AreStops own (length oracles.now) stops.now.stops.items stops.now.rest }
+    ensures row { (own : Wanted Bool) → AreStops own (length oracles.now) stops.now.stops.items stops.now.rest
+        → HasWanted own (spec.row_drawn (map component_drawn oracles.now) before) row.new }
+    ensures number { result ≡ spec.number_after (length oracles.now) before }
+{
+    let listed = stops.stops.as_slice();
+    let mut number = before;
+    for j in 0..listed.len() {
+        let stop = listed[j];
+        number = after(stop.leap, number);
+        row[stop.place as usize] = choice_drawn(&oracles[stop.place as usize], number);
+    }
+    after(stops.rest, number)
 }
 
 fn row_skipped(before: u64, width: usize) -> u64

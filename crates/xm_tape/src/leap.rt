@@ -1,6 +1,6 @@
 //! Draws that are passed over at once.
 
-ghost use Rattle.std.specs.Prelude.{◌≡◌, ℕ, ◌+◌, IfOk, IsTrue, Some, slice_get, true};
+ghost use Rattle.std.specs.Prelude.{◌≡◌, ℕ, ◌+◌, ◌<◌, ◌^◌, IfOk, IsTrue, Some, slice_get, true};
 ghost use Rattle.xm_tape.specs.Draws.{number_after};
 ghost use Rattle.xm_tape.specs.Inner.Leaps.{AreStops, IsLeap};
 
@@ -56,7 +56,8 @@ fn one_more(leap: Leap) -> Leap
 /// The number after the leap.
 #[inline(always)]
 pub fn after(leap: Leap, number: u64) -> u64
-    ensures { (n : ℕ) → IsLeap n leap → result ≡ number_after n number }
+    ensures after { (n : ℕ) → IsLeap n leap → result ≡ number_after n number }
+    ensures small { result < 2 ^ 64 }
 {
     number
         .wrapping_mul(leap.multiplier)

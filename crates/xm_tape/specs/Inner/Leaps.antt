@@ -1,5 +1,6 @@
 -- Inner: draws that are passed over at once.
-use Rattle.std.specs.Prelude.{◌≡◌, ℕ, suc, ◌+◌, ◌-◌, ◌*◌, ◌%◌, ◌<◌, ◌≤◌, ◌^◌, Bool, true, List, [], ◌∷◌, Some, slice_get}
+use Rattle.std.specs.Prelude.{◌≡◌, ℕ, suc, ◌+◌, ◌-◌, ◌*◌, ◌%◌, ◌<◌, ◌≤◌, ◌^◌, Bool, true, List, [], ◌∷◌, drop, Some, slice_get}
+use Rattle.xm_model.specs.declared.state.Choice.{Choice}
 use Rattle.xm_tape.specs.Draws.{number_after}
 use Rattle.xm_tape.specs.declared.leap.Leap.{Leap}
 use Rattle.xm_tape.specs.declared.leap.Stop.{Stop}
@@ -25,3 +26,12 @@ pub record AreStops (own : List Bool) (width : ℕ) (stops : List Stop) (rest : 
   pub inside : to ≤ width
   pub leap : IsLeap (width - to) rest
   pub none : NoneWanted own to width
+
+-- the stops before the j-th are done: the number is that behind the last, and the wanted places up to there are those of
+-- the whole row
+pub record AreDone (own : List Bool) (stops : List Stop) (j to : ℕ) (whole row : List Choice) (before number : ℕ) :
+    Type 0 where
+  pub from : ℕ
+  pub ahead : Reaches own from (drop j stops) to
+  pub number_is : number ≡ number_after from before
+  pub same : (k : ℕ) → k < from → slice_get own k ≡ Some true → slice_get row k ≡ slice_get whole k
