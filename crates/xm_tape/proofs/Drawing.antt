@@ -4,9 +4,11 @@ use Rattle.xm_model.specs.Component.{Component, Fork, Function, Join, Merge, Que
 use Rattle.xm_model.specs.declared.state.Choice.{Choice}
 use Rattle.std.proofs.lemmas.List.{get_or_append_left, length-map}
 use Rattle.xm_tape.specs.Taped.{Taped, cycles_of, rows_of}
-use Rattle.xm_tape.specs.Inner.Forms.{component_drawn, drawn_form, drawn_of}
+use Rattle.xm_tape.specs.Inner.Forms.{component_drawn, drawn_form, drawn_of, drawn_row, number_at, taped_of}
 use Rattle.xm_tape.specs.declared.drawn.DrawnTape.{DrawnTape}
 use Rattle.xm_tape.specs.declared.drawn.Oracle.{Oracle}
+use Rattle.xm_tape.specs.declared.rows.Form.{Form}
+use Rattle.xm_tape.specs.declared.rows.Form.TheVariants as forms
 use Rattle.xm_tape.specs.Marks.{oracles_of}
 use Rattle.xm_tape.specs.Draws.{choice_drawn, next_number, number_after, row_drawn, rows_drawn, seeded_rows}
 
@@ -104,3 +106,20 @@ seeded_as prims tape cycles seed kept many from =
     ∙ ap₂ (λ (n x : ℕ). rows_drawn (oracles_of prims) n x) many from) where
       as_tape : List (List Choice) → Taped
       as_tape rows = record { stem = rows; cycle = []; times = 0 }
+
+-- ---- of a form that is drawn
+
+-- the number after a row more
+pub number_on : (form : Form) (tape : DrawnTape) → form ≡ forms.Drawn tape → (os : List Oracle) → os ≡ tape.oracles.items → (t number after : ℕ) → number ≡ number_at form t
+    → after ≡ number_after (length os) number → after ≡ number_at form (t + 1)
+number_on form tape is os listed t number after before next =
+    number_next (length tape.oracles.items) t tape.seed number after (before ∙ ap (λ (f : Form). number_at f t) is) (next ∙ ap (λ (os : List Oracle). number_after (length os) number) listed)
+    ∙ ap (λ (f : Form). number_at f (t + 1)) (sym is)
+
+-- the row of a cycle
+pub row_on : (form : Form) (tape : DrawnTape) → form ≡ forms.Drawn tape → (it : Taped) (t : ℕ) → taped_of form ≡ it → t < cycles_of it → drawn_row form t ≡ get_or (rows_of it) t []
+row_on form tape is it t seen within =
+    let oracles = map component_drawn tape.oracles.items in
+    ap (λ (f : Form). drawn_row f t) is
+    ∙ ap (λ (w : ℕ). row_drawn oracles (number_after (t * w) tape.seed)) (sym (length-map tape.oracles.items component_drawn))
+    ∙ sym (drawn_read oracles tape.cycles tape.seed t it (sym (ap taped_of is) ∙ seen) within)

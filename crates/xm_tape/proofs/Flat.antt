@@ -1,10 +1,8 @@
 -- Rows in one list, as they are appended and read.
-use Rattle.std.proofs.Common.{◌≡◌, ℕ, zero, suc, ◌+◌, ◌-◌, ◌*◌, ◌<◌, ◌≤◌, List, [], ◌∷◌, ◌++◌, length, get_or, take, drop, refl, sym, ap, ◌∙◌, append_assoc, subst, arith, length-drop}
+use Rattle.std.proofs.Common.{◌≡◌, ℕ, zero, suc, ◌+◌, ◌*◌, ◌<◌, ◌≤◌, List, [], ◌∷◌, ◌++◌, length, get_or, take, drop, refl, sym, ap, ◌∙◌, append_assoc, subst, arith, length-drop}
 use Rattle.std.proofs.Math.Seq.{drop-append_seam, take-length}
 use Rattle.std.proofs.lemmas.List.{drop-append-le, drop-drop, take-append-le}
-use Rattle.xm_model.specs.Component.{Component}
 use Rattle.xm_model.specs.declared.state.Choice.{Choice}
-use Rattle.xm_tape.specs.Draws.{number_after, row_drawn, rows_drawn}
 use Rattle.xm_tape.specs.Inner.Flat.{IsLonger, added, rows_at}
 
 -- ---- what is appended

@@ -1,5 +1,5 @@
 -- The tape of a draft: how its rows are met, how many they are, and its limits.
-use Rattle.std.proofs.Common.{◌≡◌, ℕ, zero, suc, ◌+◌, ◌*◌, ◌≤◌, List, [], length, drop, Result, Ok, Err, refl, sym, ap, ◌∙◌, subst, arith}
+use Rattle.std.proofs.Common.{◌≡◌, ℕ, ◌+◌, ◌*◌, ◌≤◌, List, [], length, drop, Result, Ok, Err, refl, sym, ap, ◌∙◌, subst, arith}
 use Rattle.std.specs.Prelude.{nat_le, IfOk}
 use Rattle.std.proofs.lemmas.Bool.{leb-true}
 use Rattle.xm_json.specs.Lemmas.StepFacts.{Fails-bind, bound, checked, each_length}
@@ -7,7 +7,7 @@ use Rattle.xm_model.specs.Component.{Component}
 use Rattle.xm_model.specs.Net.{Network}
 use Rattle.xm_model.specs.Steps.{check, each_from}
 use Rattle.xm_model.specs.declared.state.Choice.{Choice}
-use Rattle.xm_tape.specs.Draws.{number_after, rows_drawn}
+use Rattle.xm_tape.specs.Draws.{rows_drawn}
 use Rattle.xm_tape.specs.Gives.{Fails, Gives, fault_of}
 use Rattle.xm_tape.specs.Inner.Flat.{IsLonger, added, row_of, rows_at, taped}
 use Rattle.xm_tape.specs.Marks.{oracles_of, row_at}

@@ -1,6 +1,6 @@
 //! The rows of a tape, one after another.
 
-ghost use Rattle.std.specs.Prelude.{◌≡◌, ℕ, ◌+◌, length, IfOk};
+ghost use Rattle.std.specs.Prelude.{◌≡◌, ℕ, ◌+◌, ◌<◌, ◌^◌, length, IfOk};
 ghost use Rattle.xm_tape.specs.Inner.Forms as spec;
 
 use crate::drawn::DrawnTape;
@@ -42,7 +42,7 @@ impl<'t> Model for Rows<'t> {
 }
 
 /// The number after which the row of this cycle is drawn.
-fn number_at(form: &Form, cycle: u32) -> u64
+pub fn number_at(form: &Form, cycle: u32) -> u64
     ensures { result ≡ spec.number_at form.now cycle }
 {
     match form {
@@ -52,8 +52,9 @@ fn number_at(form: &Form, cycle: u32) -> u64
 }
 
 /// A row for the choices that are drawn in place.
-fn row_for(alloc: Global, form: &Form) -> Result<List<Choice>, OutOfMemory>
-    ensures { IfOk result (λ row. length row.items ≡ spec.width_drawn form.now) }
+pub fn row_for(alloc: Global, form: &Form) -> Result<List<Choice>, OutOfMemory>
+    ensures width { IfOk result (λ row. length row.items ≡ spec.width_drawn form.now) }
+    ensures few { IfOk result (λ row. length row.items < 2 ^ 32) }
 {
     match form {
         Form::Written(_) => Ok(List::new(alloc)),

@@ -9,12 +9,13 @@ ghost use Rattle.xm_tape.specs.Sizes.{most_cycles, most_cycles_by_channels};
 
 use crate::drawn::drawn_tape;
 use crate::fault::TapeFault;
+use crate::part_rows::PartRows;
 use crate::rows::{Form, Rows};
 use crate::written::WrittenTape;
 use std::alloc::Global;
 use std::marker::Model;
 use xm_design::Design;
-use xm_model::OutOfMemory;
+use xm_model::{List, OutOfMemory};
 
 /// The choices of a run. Rows that are written are kept, each once; of a seeded tape the seed is kept, and what is
 /// drawn from it comes row by row.
@@ -91,6 +92,19 @@ impl Tape {
         ensures { IfOk result (λ rows. rows ≡ record { tape = self.now; cycle = from }) }
     {
         Rows::new(alloc, &self.form, from)
+    }
+
+    /// The rows from a cycle on, of which the choices at the wanted places alone count. The time is linear in the draws
+    /// before it, and in the places of a row.
+    pub fn part_rows(
+        &self,
+        alloc: Global,
+        from: u32,
+        own: &List<bool>,
+    ) -> Result<PartRows<'_>, OutOfMemory>
+        ensures { IfOk result (λ rows. rows ≡ record { tape = self.now; cycle = from; own = own.now.items }) }
+    {
+        PartRows::new(alloc, &self.form, from, own)
     }
 
     /// How many rows come once, before those that are repeated.

@@ -1,8 +1,7 @@
-use Rattle.std.proofs.Common.{◌≡◌, ◌<◌, ◌≤◌, ◌∙◌, List, Some, ap, arith, get_or, length, map, refl, slice_get, sym}
+use Rattle.std.proofs.Common.{◌∙◌, Some, ap, arith, get_or, length, map, sym}
 use Rattle.std.specs.Prelude.{Option, option_map}
 use Rattle.std.proofs.lemmas.List.{length-map, length-set}
 use Rattle.std.proofs.lemmas.Option.{slice_get-get_or, slice_get-map}
-use Rattle.xm_model.specs.declared.state.Choice.{Choice}
 use Rattle.xm_tape.proofs.Leaping.{done_more, drawn_at, first_done, length-row_drawn, number_all, number_at_stop, row_all, stop_inside}
 use Rattle.xm_tape.specs.Draws.{choice_drawn, row_drawn}
 use Rattle.xm_tape.specs.Inner.Forms.{component_drawn}
