@@ -1,5 +1,6 @@
 pub mod Applied
 pub mod Building
+pub mod Choosing
 pub mod CellsAt
 pub mod Consecutive
 pub mod Cut

@@ -1,5 +1,5 @@
 -- The signals of a part that its plan made are those of the frame.
-use Rattle.std.proofs.Common.{◌≡◌, ℕ, zero, suc, ◌<◌, Bool, false, List, [], ◌∷◌, length, map, refl, ap, sym, ◌∙◌, subst, inl, inr, arith, eq-eqb, Some, slice_get}
+use Rattle.std.proofs.Common.{◌≡◌, ℕ, zero, suc, ◌<◌, Bool, true, false, List, [], ◌∷◌, length, map, refl, ap, sym, ◌∙◌, subst, inl, inr, arith, eq-eqb, Some, slice_get}
 use Rattle.std.specs.Prelude.{Option, cond, ◌+◌}
 use Rattle.std.proofs.lemmas.Bool.{cond-true, eqb-true}
 use Rattle.std.proofs.lemmas.Option.{get_or_from_slice_get, slice_get-map, slice_get_within}
@@ -7,7 +7,7 @@ use Rattle.xm_design.specs.Designed.{Designed, IsDesigned}
 use Rattle.xm_design.specs.declared.tasks.Task.{Task}
 use Rattle.xm_model.specs.Component.{Component, Content, content_of}
 use Rattle.xm_model.specs.Frame.{IsFrame}
-use Rattle.xm_model.specs.Views.{choice_at, choice_or, content_at, offer_or, oracles_below, ready_or, signals_of}
+use Rattle.xm_model.specs.Views.{choice_at, choice_or, content_at, is_oracle, offer_or, oracles_below, ready_or, signals_of}
 use Rattle.xm_model.specs.Lemmas.Local.{IsPort}
 use Rattle.xm_model.specs.Net.{HasPrim, Network}
 use Rattle.xm_model.specs.Ports.{IsInitiator, IsTarget}
@@ -19,14 +19,16 @@ use Rattle.xm_order.specs.Settle.{Same}
 use Rattle.xm_order.specs.Sides.{offer_side, ready_side}
 use Rattle.xm_order.specs.declared.signal.Signal.{Signal}
 use Rattle.xm_order.specs.declared.signal.Signal.TheVariants as signal
+use Rattle.xm_parts.proofs.Choosing.{offer_alike, oracle_renamed, ready_alike}
 use Rattle.xm_parts.proofs.Cut.{offer_made, ready_made, same_label}
 use Rattle.xm_parts.proofs.PartOrder.{IsPartOrder, part_order}
 use Rattle.xm_parts.proofs.Parting.{slice_get-found}
 use Rattle.xm_parts.proofs.Passing.{passing_from, place_once}
 use Rattle.xm_parts.proofs.Renaming.{by_channel, offer_renamed, ready_renamed}
+use Rattle.xm_parts.specs.Choosing.{ChoosesAs}
 use Rattle.xm_parts.specs.Kept.{IsPlanOf, IsTask, channel_place, near_place, port_place, renamed, signals_in}
 use Rattle.xm_parts.specs.Inner.Showing.{ShowsState}
-use Rattle.xm_parts.specs.Partition.{IsPartition, channels_in, is_cut, is_queue, lies_in, prims_in}
+use Rattle.xm_parts.specs.Partition.{IsPartition, channels_in, is_cut, is_queue, lies_in, prims_in, touches_at}
 use Rattle.xm_parts.specs.Passing.{place}
 use Rattle.xm_parts.specs.Projection.{wire_of}
 use Rattle.xm_parts.specs.Rows.{cell_in}
@@ -85,7 +87,13 @@ module _ (it : Designed) (designed : IsDesigned it) (label : ℕ → ℕ) (parti
       let there : slice_get plan.choices k ≡ Some (oracles_below it.net.prims maker) = rw is.choices (rw (slice_get-map (oracles_below it.net.prims) (prims_in it.net label p) k, at) refl) in
       ap (λ (n : ℕ). choice_or (slice_get w n)) (get_or_from_slice_get plan.choices k (oracles_below it.net.prims maker) 0 there)
 
-  module _ (s : ℕ → Content) (φ : Signals) (shows : ShowsState it.net label p cells s) (frame : IsFrame it.net s (choice_at it.net.prims w) φ) where
+  module _ (s : ℕ → Content) (x : ℕ → Choice) (φ : Signals) (shows : ShowsState it.net label p cells s) (chooses : ChoosesAs it.net label p w x) (frame : IsFrame it.net s x φ) where
+    -- the choice of a primitive counts where it is a source or a sink
+    counted : (k maker : ℕ) (m : Component) → slice_get (prims_in it.net label p) k ≡ Some maker → HasPrim it.net maker m → (r : ℕ → ℕ) → is_oracle (renamed r m) ≡ true → choice_for plan.choices w k ≡ x maker
+    counted k maker m at has r oracle =
+        its_choice k maker at
+        ∙ chooses maker m has (sym (oracle_renamed r m) ∙ oracle) (passing_from (touches_at it.net label p) (length it.net.prims) k maker at).passes
+
     abbrev IsSeen : Signal → Type 0
     IsSeen σ = Same (by_channel (channel_place label p) (signals_of wires)) φ σ
 
@@ -110,12 +118,12 @@ module _ (it : Designed) (designed : IsDesigned it) (label : ℕ → ℕ) (parti
           let X = content_of (cell_in cells task.prim) in let W = choice_for plan.choices w task.prim in
           let listed = is.same.to k task there in
           let its : (signals_of wires).offer (channel_place label p c) ≡ offer_side m X W (signals_of wires) (channel_place label p c) =
-          subst (λ (x : Signal). IsMadeFrom m X W (signals_of wires) (signals_of wires) x) by.signal_is (settled listed.0 task m listed.1 (is.prims.each task.prim by.maker d.prim by.prim_is d.has)) in
-          its ∙ ap (λ (x : Content). offer_side m x W (signals_of wires) (channel_place label p c)) (shows.at task.prim by.maker by.prim_is)
-          ∙ ap (λ (x : Choice). offer_side m (s by.maker) x (signals_of wires) (channel_place label p c)) (its_choice task.prim by.maker by.prim_is)
-          ∙ ap (λ (x : ℕ). offer_side m (s by.maker) (choice_at it.net.prims w by.maker) (signals_of wires) x) (sym (own_place label p c 0 lies))
-          ∙ offer_renamed r (s by.maker) (choice_at it.net.prims w by.maker) (signals_of wires) d.prim c d.has_output (once by.maker c d.prim d.has (inl d.has_output) lies)
-          ∙ offer_made (s by.maker) (choice_at it.net.prims w by.maker) (by_channel r (signals_of wires)) φ d.prim c d.has_output (frame by.maker d.prim d.has)
+          subst (λ (y : Signal). IsMadeFrom m X W (signals_of wires) (signals_of wires) y) by.signal_is (settled listed.0 task m listed.1 (is.prims.each task.prim by.maker d.prim by.prim_is d.has)) in
+          its ∙ ap (λ (y : Content). offer_side m y W (signals_of wires) (channel_place label p c)) (shows.at task.prim by.maker by.prim_is)
+          ∙ offer_alike m (s by.maker) W (x by.maker) (signals_of wires) (channel_place label p c) (counted task.prim by.maker d.prim by.prim_is d.has r)
+          ∙ ap (λ (y : ℕ). offer_side m (s by.maker) (x by.maker) (signals_of wires) y) (sym (own_place label p c 0 lies))
+          ∙ offer_renamed r (s by.maker) (x by.maker) (signals_of wires) d.prim c d.has_output (once by.maker c d.prim d.has (inl d.has_output) lies)
+          ∙ offer_made (s by.maker) (x by.maker) (by_channel r (signals_of wires)) φ d.prim c d.has_output (frame by.maker d.prim d.has)
           (λ υ needs. needed (signal.Offer c) at by.maker d.prim d.has υ needs)
       seen (signal.Ready c) task at there =
           let by : IsTask it.net label p (signal.Ready c) task = is.are_tasks.each k (signal.Ready c) task at there in
@@ -126,12 +134,12 @@ module _ (it : Designed) (designed : IsDesigned it) (label : ℕ → ℕ) (parti
           let X = content_of (cell_in cells task.prim) in let W = choice_for plan.choices w task.prim in
           let listed = is.same.to k task there in
           let its : (signals_of wires).ready (channel_place label p c) ≡ ready_side m X W (signals_of wires) (channel_place label p c) =
-          subst (λ (x : Signal). IsMadeFrom m X W (signals_of wires) (signals_of wires) x) by.signal_is (settled listed.0 task m listed.1 (is.prims.each task.prim by.maker d.prim by.prim_is d.has)) in
-          its ∙ ap (λ (x : Content). ready_side m x W (signals_of wires) (channel_place label p c)) (shows.at task.prim by.maker by.prim_is)
-          ∙ ap (λ (x : Choice). ready_side m (s by.maker) x (signals_of wires) (channel_place label p c)) (its_choice task.prim by.maker by.prim_is)
-          ∙ ap (λ (x : ℕ). ready_side m (s by.maker) (choice_at it.net.prims w by.maker) (signals_of wires) x) (sym (own_place label p c 0 lies))
-          ∙ ready_renamed r (s by.maker) (choice_at it.net.prims w by.maker) (signals_of wires) d.prim c d.has_input (once by.maker c d.prim d.has (inr d.has_input) lies)
-          ∙ ready_made (s by.maker) (choice_at it.net.prims w by.maker) (by_channel r (signals_of wires)) φ d.prim c d.has_input (frame by.maker d.prim d.has)
+          subst (λ (y : Signal). IsMadeFrom m X W (signals_of wires) (signals_of wires) y) by.signal_is (settled listed.0 task m listed.1 (is.prims.each task.prim by.maker d.prim by.prim_is d.has)) in
+          its ∙ ap (λ (y : Content). ready_side m y W (signals_of wires) (channel_place label p c)) (shows.at task.prim by.maker by.prim_is)
+          ∙ ready_alike m (s by.maker) W (x by.maker) (signals_of wires) (channel_place label p c) (counted task.prim by.maker d.prim by.prim_is d.has r)
+          ∙ ap (λ (y : ℕ). ready_side m (s by.maker) (x by.maker) (signals_of wires) y) (sym (own_place label p c 0 lies))
+          ∙ ready_renamed r (s by.maker) (x by.maker) (signals_of wires) d.prim c d.has_input (once by.maker c d.prim d.has (inr d.has_input) lies)
+          ∙ ready_made (s by.maker) (x by.maker) (by_channel r (signals_of wires)) φ d.prim c d.has_input (frame by.maker d.prim d.has)
           (λ υ needs. needed (signal.Ready c) at by.maker d.prim d.has υ needs)
 
     seen_below : (n k : ℕ) (σ : Signal) → k < n → slice_get (signals_in it.order label p) k ≡ Some σ → IsSeen σ

@@ -1,5 +1,6 @@
 pub mod Balanced
 pub mod Changing
+pub mod Choosing
 pub mod Far
 pub mod Fitting
 pub mod Given

@@ -37,7 +37,7 @@ fn lies_in(labels: &[u8], p: u32, c: u32) -> bool
 }
 
 /// Whether a primitive has a channel in part `p`.
-fn touches_part(prim: &Prim, labels: &[u8], p: u32) -> bool
+pub fn touches_part(prim: &Prim, labels: &[u8], p: u32) -> bool
     ensures { result ≡ touches (label_at labels.now) p (Some (component_of prim.now)) }
 {
     match prim {

@@ -14,6 +14,7 @@ mod laws;
 mod making;
 mod moves;
 mod near;
+mod own;
 mod part;
 mod parts;
 mod row;
@@ -25,9 +26,12 @@ pub use comparing::change;
 pub use fault::PartFault;
 pub use glue::Glue;
 pub use islands_of::islands;
-pub use laws::{capacity_law, change_law, far_law, few_law, fit_law, glue_law, part_law, room_law};
+pub use laws::{
+    capacity_law, change_law, choosing_law, far_law, few_law, fit_law, glue_law, part_law, room_law,
+};
 pub use making::project;
 pub use moves::far;
+pub use own::own_oracles;
 pub use parts::Parts;
 pub use row::{FarMoves, PartRow, PrimCell, Snapshot};
 pub use step::part_step;

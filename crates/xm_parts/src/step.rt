@@ -3,10 +3,10 @@
 ghost use Rattle.std.specs.Prelude.{◌≡◌, ◌<◌, ◌≤◌, ℕ, false, length, map};
 ghost use Rattle.xm_model.specs.Component.{Content, component_of, content_of};
 ghost use Rattle.xm_model.specs.Frame.{IsFrame};
-ghost use Rattle.xm_model.specs.Views.{choice_at};
 ghost use Rattle.xm_model.specs.Next.{content_after, left, move, next};
 ghost use Rattle.xm_parts.specs.Inner.Going.{AllGoOn, CanGoOn, HasGone, HasPlace};
 ghost use Rattle.xm_model.specs.Signals.{Signals, packets_in};
+ghost use Rattle.xm_parts.specs.Choosing.{ChoosesAs};
 ghost use Rattle.xm_parts.specs.Kept.{label_at};
 ghost use Rattle.xm_parts.specs.Inner.Showing.{ShowsState};
 ghost use Rattle.xm_parts.specs.Partition.{IsPort, channels_in, is_queue, prims_in};
@@ -125,9 +125,9 @@ fn solve(parts: &Parts, p: u32, cells: &[PrimCell], w: &[Choice], wires: &mut [W
     requires part { p < parts.now.count }
     requires cells { length cells.now ≡ length (prims_in parts.now.design.net (label_at parts.now.labels) p) }
     requires wires { length wires.old ≡ length (channels_in parts.now.design.net (label_at parts.now.labels) p) }
-    ensures { (s : ℕ → Content) (φ : Signals)
+    ensures { (s : ℕ → Content) (x : ℕ → Choice) (φ : Signals)
         → ShowsState parts.now.design.net (label_at parts.now.labels) p cells.now s
-        → IsFrame parts.now.design.net s (choice_at parts.now.design.net.prims w.now) φ
+        → ChoosesAs parts.now.design.net (label_at parts.now.labels) p w.now x → IsFrame parts.now.design.net s x φ
         → wires.new ≡ map (wire_of φ) (channels_in parts.now.design.net (label_at parts.now.labels) p) }
 {
     let _count = parts.count();
@@ -136,8 +136,9 @@ fn solve(parts: &Parts, p: u32, cells: &[PrimCell], w: &[Choice], wires: &mut [W
 }
 
 /// The step of part `p`: where `old` is what the part has of a cycle and `far` what moves in it on the far sides
-/// of its cut queues, `out` becomes what it has one cycle on, in which the choices are `w`. The time is linear in
-/// the part's primitives, channels and packets, and no memory is taken.
+/// of its cut queues, `out` becomes what it has one cycle on, in which the choices are those of `w` for the part's own
+/// sources and sinks, and any others elsewhere. The time is linear in the part's primitives, channels and packets, and
+/// no memory is taken.
 pub fn part_step(
     design: &Design,
     parts: &Parts,
@@ -152,8 +153,9 @@ pub fn part_step(
     requires cycle { IsCycle design.now.net (label_at parts.now.labels) p (row_of old.now) far.now }
     requires old { IsRoomyRow design.now.net (label_at parts.now.labels) p old.now }
     requires out { IsRoomyRow design.now.net (label_at parts.now.labels) p out.old }
-    ensures step { (at : IsCycle design.now.net (label_at parts.now.labels) p (row_of old.now) far.now) (φ : Signals)
-        → IsFrame design.now.net (next design.now.net at.state at.frame) (choice_at design.now.net.prims w.now) φ
+    ensures step { (at : IsCycle design.now.net (label_at parts.now.labels) p (row_of old.now) far.now)
+        (x : ℕ → Choice) (φ : Signals) → ChoosesAs design.now.net (label_at parts.now.labels) p w.now x
+        → IsFrame design.now.net (next design.now.net at.state at.frame) x φ
         → row_of out.new ≡ projection design.now.net (label_at parts.now.labels) p
         (next design.now.net at.state at.frame) φ }
     ensures roomy { IsRoomyRow design.now.net (label_at parts.now.labels) p out.new }

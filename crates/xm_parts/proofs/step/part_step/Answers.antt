@@ -21,7 +21,7 @@ go_on_all-requires c =
     (can_go net c.net-net.ensures.design.net label partition c.args.p (map component_of c.as_slice.result.now) locals c.args.old.now c.args.out.now c.args.far.now c.requires.cycle c.requires.old c.requires.out)
 
 pub returns-clause-step : goal.returns-clause-step
-returns-clause-step c at φ frame =
+returns-clause-step c at x φ chooses frame =
     let net = c.args.design.now.net in let label = label_at c.args.parts.now.labels in
     let partition : IsPartition net label = rw (← c.requires.design) c.count-count.ensures.partition in
     let locals : AreLocalsOf net label c.args.p (map component_of c.as_slice.result.now) = rw (← c.requires.design, c.as_slice.ensures) c.part-part.ensures.locals in
@@ -33,7 +33,7 @@ returns-clause-step c at φ frame =
     let shows = shows_next net c.net-net.ensures.design.net label partition c.args.p (map component_of c.as_slice.result.now) locals c.args.old.now c.args.out.now c.args.far.now at c.go_on_all.new.out gone in
     let seen : c.as_slice-5.result.now ≡ c.go_on_all.new.out = c.as_slice-5.ensures ∙ cells in
     let there : ShowsState c.args.parts.now.design.net label c.args.p c.as_slice-5.result.now (next net at.state at.frame) = rw (seen, c.requires.design) shows in
-    let solved : c.solve.new.wires ≡ map (wire_of φ) (channels_in c.args.parts.now.design.net label c.args.p) = c.solve.ensures (next net at.state at.frame) φ there (rw c.requires.design frame) in
+    let solved : c.solve.new.wires ≡ map (wire_of φ) (channels_in c.args.parts.now.design.net label c.args.p) = c.solve.ensures (next net at.state at.frame) x φ there (rw c.requires.design chooses) (rw c.requires.design frame) in
     rw (cells, wires) (row_is net label c.args.p (next net at.state at.frame) φ c.go_on_all.new.out c.solve.new.wires c.args.out.now.cells.room c.args.out.now.wires.room
     (cells_after net c.net-net.ensures.design.net label partition c.args.p (map component_of c.as_slice.result.now) locals c.args.old.now.cells.items c.args.out.now c.requires.out.fits c.go_on_all.new.out _ gone (next net at.state at.frame) shows)
     (rw (← c.requires.design) solved))

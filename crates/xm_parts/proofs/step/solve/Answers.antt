@@ -19,7 +19,7 @@ pub solve-requires-clause-wires : goal.solve-requires-clause-wires
 solve-requires-clause-wires c = c.requires.wires ∙ sym c.part-part.ensures.plan.places
 
 pub returns : goal.returns
-returns c s φ shows frame =
+returns c s x φ shows chooses frame =
     let it = c.args.parts.now.design in let label = label_at c.args.parts.now.labels in
     all_seen it c.count-count.ensures.designed label c.count-count.ensures.partition c.args.p c.part-part.result.now.plan c.part-part.ensures.plan c.args.cells.now c.args.w.now c.solve.new.wires
-    (contents_seen c.part-part.result.now.plan c.args.cells.now c.args.w.now (signals_of c.solve.new.wires) c.solve.ensures.settled) s φ shows frame (c.solve.auto.wires ∙ c.requires.wires)
+    (contents_seen c.part-part.result.now.plan c.args.cells.now c.args.w.now (signals_of c.solve.new.wires) c.solve.ensures.settled) s x φ shows chooses frame (c.solve.auto.wires ∙ c.requires.wires)
