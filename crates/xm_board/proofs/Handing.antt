@@ -162,9 +162,9 @@ module _ (design : Designed) (tape : Taped) (parts : Division) (c : Core) (floor
         let early = ready.early in
         let target = is.set_up.target in
         let long : length now ≡ length (cuts_in design.net (label_at parts.labels) p) = ap length same ∙ is.far_are.now_whole p around at in
-        subst (λ (v : Taped). IsJob design parts p t (record { row = it.row; spare = it.spare; far = now; choices = record { tape = v; cycle = it.choices.cycle } }) change) (sym fits.tape) (record {
+        subst (λ (v : Taped). IsJob design parts p t (record { row = it.row; spare = it.spare; far = now; choices = record { tape = v; cycle = it.choices.cycle; own = it.choices.own } }) change) (sym fits.tape) (record {
           task = record { design_is = is.set_up.design_is; part = part; fits = is.set_up.fits; early = omega arith; few = omega arith };
-          newest = record { row = fits.row; spare = fits.spare; far = long; tape = refl; cycle = fits.cycle };
+          newest = record { row = fits.row; spare = fits.spare; far = long; tape = refl; cycle = fits.cycle; own = fits.own };
           room = room;
           stands = λ s φ named. record {
             row = rows s φ named;

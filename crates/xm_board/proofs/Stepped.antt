@@ -1,6 +1,6 @@
 -- What the step of a job makes.
 use Rattle.std.proofs.Common.{◌≡◌, ℕ, suc, ◌+◌, List, [], ap, sym, ◌∙◌, subst, arith}
-use Rattle.std.specs.Prelude.{slice_index_or}
+use Rattle.std.specs.Prelude.{Bool, slice_index_or}
 use Rattle.xm_board.specs.Inner.Jobs.{IsDone, IsJob, run_in}
 use Rattle.xm_board.specs.Run.{IsNamed, row_at}
 use Rattle.xm_board.specs.declared.newest.Newest.{Newest}
@@ -14,12 +14,13 @@ use Rattle.xm_model.specs.Views.{choice_at}
 use Rattle.xm_model.specs.declared.state.Choice.{Choice}
 use Rattle.xm_order.specs.OneRun.{OneRun}
 use Rattle.xm_parts.specs.Changing.{CanChange, ChangeLaw, IsChange}
+use Rattle.xm_parts.specs.Choosing.{ChoosesAs, ChoosingLaw, own_oracles}
 use Rattle.xm_parts.specs.Kept.{Division, label_at}
 use Rattle.xm_parts.specs.Projection.{IsCycle, Row, projection}
 use Rattle.xm_parts.specs.Rows.{IsRoomyRow, row_of}
 use Rattle.xm_parts.specs.declared.changes.Change.{Change}
 use Rattle.xm_parts.specs.declared.row.PartRow.{PartRow}
-use Rattle.xm_tape.specs.Place.{Place}
+use Rattle.xm_tape.specs.Place.{HasWanted, PartPlace}
 use Rattle.xm_tape.specs.Taped.{chosen, cycles_of, rows_of}
 use mathlib.Core.Path.{fun_ext}
 
@@ -46,12 +47,16 @@ module _ (design : Designed) (parts : Division) (p t : ℕ) (it : Newest) (chang
     next_is : (s : ℕ → ℕ → Content) (φ : ℕ → Signals) → IsNamed (run_in design parts it.choices.tape) s φ → next design.net (s t) (φ t) ≡ s (suc t)
     next_is s φ run = let early = job.task.early in fun_ext (λ q. sym (run.steps t q (omega arith)))
 
-    pub stepped : (new : Row) (w : List Choice) → ((at : IsCycle design.net (label_at parts.labels) p (row_of it.row) it.far) (ψ : Signals) → IsFrame design.net (next design.net at.state at.frame) (choice_at design.net.prims w) ψ → new ≡ projection design.net (label_at parts.labels) p (next design.net at.state at.frame) ψ) → w ≡ slice_index_or (rows_of it.choices.tape) it.choices.cycle [] → (s : ℕ → ℕ → Content) (φ : ℕ → Signals) → IsNamed (run_in design parts it.choices.tape) s φ → new ≡ row_at (run_in design parts it.choices.tape) s φ p (suc t)
-    stepped new w made read s φ run =
+    pub stepped : ChoosingLaw → (new : Row) (w : List Choice) → ((at : IsCycle design.net (label_at parts.labels) p (row_of it.row) it.far) (x : ℕ → Choice) (ψ : Signals) → ChoosesAs design.net (label_at parts.labels) p w x → IsFrame design.net (next design.net at.state at.frame) x ψ → new ≡ projection design.net (label_at parts.labels) p (next design.net at.state at.frame) ψ)
+        → HasWanted it.choices.own (slice_index_or (rows_of it.choices.tape) it.choices.cycle []) w → (s : ℕ → ℕ → Content) (φ : ℕ → Signals) → IsNamed (run_in design parts it.choices.tape) s φ → new ≡ row_at (run_in design parts it.choices.tape) s φ p (suc t)
+    stepped law new w made read s φ run =
         let same = next_is s φ run in
-        let row : w ≡ slice_index_or (rows_of it.choices.tape) (suc t) [] = read ∙ ap (λ k. slice_index_or (rows_of it.choices.tape) k []) job.newest.cycle in
-        let frame : IsFrame design.net (s (suc t)) (choice_at design.net.prims w) (φ (suc t)) = subst (λ (v : List Choice). IsFrame design.net (s (suc t)) (choice_at design.net.prims v) (φ (suc t))) (sym row) (run.frames (suc t) job.task.early) in
-        let shown = made (at_cycle s φ run) (φ (suc t)) (subst (λ (v : ℕ → Content). IsFrame design.net v (choice_at design.net.prims w) (φ (suc t))) (sym same) frame) in
+        let whole = slice_index_or (rows_of it.choices.tape) (suc t) [] in
+        let wanted : HasWanted (own_oracles (label_at parts.labels) p design.net.prims) whole w =
+        subst (λ (own : List Bool). HasWanted own whole w) job.newest.own (subst (λ (k : ℕ). HasWanted it.choices.own (slice_index_or (rows_of it.choices.tape) k []) w) job.newest.cycle read) in
+        let chooses = law design.net (label_at parts.labels) p whole w wanted.same in
+        let shown = made (at_cycle s φ run) (choice_at design.net.prims whole) (φ (suc t)) chooses
+        (subst (λ (v : ℕ → Content). IsFrame design.net v (choice_at design.net.prims whole) (φ (suc t))) (sym same) (run.frames (suc t) job.task.early)) in
         shown ∙ ap (λ (v : ℕ → Content). projection design.net (label_at parts.labels) p v (φ (suc t))) same
 
     pub can_change : ChangeLaw → FitsHold → IsDesigned design → (new : Row) (s : ℕ → ℕ → Content) (φ : ℕ → Signals) → IsNamed (run_in design parts it.choices.tape) s φ → new ≡ row_at (run_in design parts it.choices.tape) s φ p (suc t) → CanChange (row_of it.row) new
@@ -62,9 +67,9 @@ module _ (design : Designed) (parts : Division) (p t : ℕ) (it : Newest) (chang
         let after : new ≡ projection design.net (label_at parts.labels) p (next design.net (s t) (φ t)) (φ (suc t)) = row ∙ ap (λ (v : ℕ → Content). projection design.net (label_at parts.labels) p v (φ (suc t))) (sym (next_is s φ run)) in
         subst (λ (r : Row). CanChange (row_of it.row) r) (sym after) (subst (λ (r : Row). CanChange r (projection design.net (label_at parts.labels) p (next design.net (s t) (φ t)) (φ (suc t)))) (sym (job.stands s φ run).row) can)
 
-    pub is_done : (spare : PartRow) (differs : Change) (choices : Place) → choices.tape ≡ it.choices.tape → choices.cycle ≡ it.choices.cycle + 1 → IsRoomyRow design.net (label_at parts.labels) p spare → IsChange (row_of it.row) (row_of spare) differs → ((s : ℕ → ℕ → Content) (φ : ℕ → Signals) → IsNamed (run_in design parts it.choices.tape) s φ → row_of spare ≡ row_at (run_in design parts it.choices.tape) s φ p (suc t)) → IsDone design parts p t (record { row = spare; spare = it.row; far = it.far; choices = choices }) differs
-    is_done spare differs choices tape cycle roomy is_change rows =
-        subst (λ v. IsDone design parts p t (record { row = spare; spare = it.row; far = it.far; choices = record { tape = v; cycle = choices.cycle } }) differs) (sym tape) (record {
+    pub is_done : (spare : PartRow) (differs : Change) (choices : PartPlace) → choices.tape ≡ it.choices.tape → choices.cycle ≡ it.choices.cycle + 1 → choices.own ≡ it.choices.own → IsRoomyRow design.net (label_at parts.labels) p spare → IsChange (row_of it.row) (row_of spare) differs → ((s : ℕ → ℕ → Content) (φ : ℕ → Signals) → IsNamed (run_in design parts it.choices.tape) s φ → row_of spare ≡ row_at (run_in design parts it.choices.tape) s φ p (suc t)) → IsDone design parts p t (record { row = spare; spare = it.row; far = it.far; choices = choices }) differs
+    is_done spare differs choices tape cycle own roomy is_change rows =
+        subst (λ v. IsDone design parts p t (record { row = spare; spare = it.row; far = it.far; choices = record { tape = v; cycle = choices.cycle; own = choices.own } }) differs) (sym tape) (record {
           task = job.task;
           newest = record {
             row = roomy;
@@ -72,6 +77,7 @@ module _ (design : Designed) (parts : Division) (p t : ℕ) (it : Newest) (chang
             far = job.newest.far;
             tape = job.newest.tape;
             cycle = (let at = job.newest.cycle in omega arith);
+            own = own ∙ job.newest.own;
           };
           stands = λ s φ run. (let row = rows s φ run in record {
             row = row;

@@ -4,7 +4,7 @@ use crate::newest::Newest;
 use std::marker::Model;
 use xm_design::{Design, fits_hold};
 use xm_order::one_run;
-use xm_parts::{Change, Parts, change, change_law, few_law, part_step};
+use xm_parts::{Change, Parts, change, change_law, choosing_law, few_law, part_step};
 
 /// A part that was handed out, with all that its step needs. A contract sees the run, the part and the cycle that it
 /// leaves.
@@ -83,6 +83,7 @@ impl<'a> Job<'a> {
         one_run();
         fits_hold();
         change_law();
+        choosing_law();
         few_law();
         let Job {
             design,

@@ -14,7 +14,7 @@ use crate::row_log::RowLog;
 use std::alloc::Global;
 use xm_design::Design;
 use xm_model::{List, OutOfMemory};
-use xm_parts::{FarMoves, Parts};
+use xm_parts::{FarMoves, Parts, own_oracles};
 use xm_tape::Tape;
 use xm_trace::Move;
 
@@ -57,7 +57,8 @@ fn made_newest<'a>(
     let row = log.newest(alloc, design)?;
     let spare = row.copy(alloc, design)?;
     let far = FarMoves::new(alloc, design, parts, p)?;
-    let choices = tape.rows(alloc, t + 1)?;
+    let own = own_oracles(alloc, design, parts, p)?;
+    let choices = tape.part_rows(alloc, t + 1, &own)?;
     Ok(Newest {
         row,
         spare,

@@ -6,6 +6,7 @@ use Rattle.xm_design.specs.Designed.{Designed}
 use Rattle.xm_model.specs.Component.{Content}
 use Rattle.xm_model.specs.Signals.{Signals}
 use Rattle.xm_parts.specs.Changing.{IsChange}
+use Rattle.xm_parts.specs.Choosing.{own_oracles}
 use Rattle.xm_parts.specs.Kept.{Division, label_at}
 use Rattle.xm_parts.specs.Partition.{channels_in, cuts_in, prims_in}
 use Rattle.xm_parts.specs.Projection.{far_moves}
@@ -17,13 +18,14 @@ use Rattle.xm_tape.specs.Taped.{Fits, Taped, cycles_of}
 abbrev pub run_in : Designed → Division → Taped → RunName
 run_in design parts tape = record { net = design.net; tape = tape; labels = parts.labels }
 
--- both rows have room for part p at any cycle, and the choices are those of the cycle after t
+-- both rows have room for part p at any cycle, and the choices are those of its own sources and sinks in the cycle after t
 pub record IsNewest (run : RunName) (p t : ℕ) (it : Newest) : Type 0 where
   pub row : IsRoomyRow run.net (label_at run.labels) p it.row
   pub spare : IsRoomyRow run.net (label_at run.labels) p it.spare
   pub far : length it.far ≡ length (cuts_in run.net (label_at run.labels) p)
   pub tape : it.choices.tape ≡ run.tape
   pub cycle : it.choices.cycle ≡ suc t
+  pub own : it.choices.own ≡ own_oracles (label_at run.labels) p run.net.prims
 
 -- a step of part p from cycle t to the next can be done
 pub record IsTask (design : Designed) (parts : Division) (tape : Taped) (p t : ℕ) : Type 0 where

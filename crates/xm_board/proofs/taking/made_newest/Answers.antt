@@ -1,6 +1,6 @@
 use Rattle.std.proofs.Common.{◌≡◌, ◌+◌, suc, ap, ◌∙◌, arith}
 use Rattle.xm_parts.specs.Kept.{label_at}
-use Rattle.xm_tape.specs.Place.{Place}
+use Rattle.xm_tape.specs.Place.{PartPlace}
 use Rattle.xm_board.proofs.taking.made_newest.Goals as goal
 
 pub copy-requires : goal.copy-requires
@@ -14,8 +14,9 @@ returns-clause-fits c =
       row = roomy;
       spare = c.in_ok-spare.ensures.roomy (label_at c.args.parts.now.labels) c.args.p roomy;
       far = c.in_ok-far.ensures.whole;
-      tape = ap (λ (x : Place). x.tape) c.in_ok-choices.ensures;
-      cycle = ap (λ (x : Place). x.cycle) c.in_ok-choices.ensures ∙ next;
+      tape = ap (λ (x : PartPlace). x.tape) c.in_ok-choices.ensures;
+      cycle = ap (λ (x : PartPlace). x.cycle) c.in_ok-choices.ensures ∙ next;
+      own = ap (λ (x : PartPlace). x.own) c.in_ok-choices.ensures ∙ c.in_ok-own.ensures;
     }
 
 pub returns-clause-row : goal.returns-clause-row
