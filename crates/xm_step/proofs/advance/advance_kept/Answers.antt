@@ -104,8 +104,8 @@ bounds-cells-other g c =
 pub offset_bounds-cells-other : goal.offset_bounds-cells-other
 offset_bounds-cells-other g c = let within = bounds-cells-other g c in search rules
 
-pub advance_holding-any-requires : goal.advance_holding-any-requires
-advance_holding-any-requires g c =
+pub advance_other-any-requires : goal.advance_other-any-requires
+advance_other-any-requires g c =
     let ms : List Component = c.args.evaluator.now.net.prims in
     let it : Holder = get_or c.as_slice-others.result.now c.loop-i.i (record { prim = 0; holds = holding.Packets 0 0 }) in
     other_can_by g.C.HasCell.cell ms c.args.cells.now (signals_of c.args.wires.now) c.loop-i.invariant.0 c.as_slice-others.result.now (length ms) c.loop-i.invariant.1.0 c.requires.roomy c.requires.guarded (sym c.requires.roomy.whole)
@@ -138,10 +138,10 @@ loop-i-preserved g c =
         kinds,
         (
           other_gone_by g.C.HasCell.cell ms c.args.cells.now (signals_of c.args.wires.now) queues c.as_slice-others.result.now (length ms) kinds c.requires.roomy c.requires.guarded (sym c.requires.roomy.whole)
-              c.loop-i.cells (c.loop-i.auto.cells ∙ c.loop-k.auto.cells) c.loop-i.i it at c.loop-i.invariant.1.1.0 c.index-cells-other.result c.advance_holding-any.new.cell (λ m can. c.advance_holding-any.ensures.gone m can standing),
-          noted_by g.C.HasCell.cell ms c.loop-i.cells c.args.changed.now c.loop-i.changed (signals_of c.args.wires.now) (IsAmongBoth queues c.as_slice-others.result.now c.loop-i.i) (IsAmongBoth queues c.as_slice-others.result.now (c.loop-i.i + 1)) it.prim c.advance_holding-any.new.cell c.advance_holding-any.result
+              c.loop-i.cells (c.loop-i.auto.cells ∙ c.loop-k.auto.cells) c.loop-i.i it at c.loop-i.invariant.1.1.0 c.index-cells-other.result c.advance_other-any.new.cell (λ m can. c.advance_other-any.ensures.gone m can standing),
+          noted_by g.C.HasCell.cell ms c.loop-i.cells c.args.changed.now c.loop-i.changed (signals_of c.args.wires.now) (IsAmongBoth queues c.as_slice-others.result.now c.loop-i.i) (IsAmongBoth queues c.as_slice-others.result.now (c.loop-i.i + 1)) it.prim c.advance_other-any.new.cell c.advance_other-any.result
               (other_within_by g.C.HasCell.cell ms c.args.cells.now (signals_of c.args.wires.now) queues c.as_slice-others.result.now (length ms) kinds c.requires.roomy c.requires.guarded (sym c.requires.roomy.whole) c.loop-i.cells (c.loop-i.auto.cells ∙ c.loop-k.auto.cells) c.loop-i.i it at c.loop-i.invariant.1.1.0) (other_out queues c.as_slice-others.result.now c.loop-i.i it at) (other_in queues c.as_slice-others.result.now c.loop-i.i) (other_here queues c.as_slice-others.result.now c.loop-i.i it at)
-              (λ m has none. c.advance_holding-any.ensures.told m (holder_is ms it (kinds.other_at c.loop-i.i it at).0 m has) standing none) c.loop-i.invariant.1.1.1,
+              (λ m has none. c.advance_other-any.ensures.told m (holder_is ms it (kinds.other_at c.loop-i.i it at).0 m has) standing none) c.loop-i.invariant.1.1.1,
         ),
       ),
     )
