@@ -34,8 +34,9 @@ pub struct Trace {
 pub fn move_on(cycle: u32, channel: u32, wire: Wire) -> Option<Move>
     ensures { option_to_list result ≡ moved_on cycle channel (only_if wire.ready wire.offer) }
 {
-    if let Some(colour) = wire.offer
-        && wire.ready
+    // Fewer channels are ready than have an offer, so that is asked first.
+    if wire.ready
+        && let Some(colour) = wire.offer
     {
         return Some(Move {
             cycle,

@@ -57,6 +57,12 @@ IsStanding (holding.Pending out mode) s φ = IsAgain mode (pending_in s) (φ.off
 IsStanding (holding.Held input mode) s φ = IsReadyAgain mode (held_in s) (φ.ready input)
 IsStanding _ s φ = Unit {0}
 
+-- a source is not taken from, or a sink is offered nothing
+abbrev pub IsQuiet : Holding → Signals → Type 0
+IsQuiet (holding.Pending out mode) φ = φ.ready out ≡ false
+IsQuiet (holding.Held input mode) φ = φ.offer input ≡ None
+IsQuiet _ φ = ⊥
+
 -- the primitive, which now holds t, has the same signals in the next cycle: nothing passed a queue
 abbrev pub IsIdle : Component → Content → Signals → Type 0
 IsIdle (Source out _ mode) t φ = IsAgain mode (pending_in t) (φ.offer out)

@@ -26,28 +26,28 @@ bounds-cells-queue g c =
 pub offset_bounds-cells-queue : goal.offset_bounds-cells-queue
 offset_bounds-cells-queue g c = let within = bounds-cells-queue g c in search rules
 
-pub moved_in-leaves-requires : goal.moved_in-leaves-requires
-moved_in-leaves-requires g c =
+pub advance_queue_at-any-requires-clause-out : goal.advance_queue_at-any-requires-clause-out
+advance_queue_at-any-requires-clause-out g c =
     let ms : List Component = c.args.evaluator.now.net.prims in
     let kinds : AreKindsTo ms (length ms) c.as_slice-queues.result.now c.as_slice-others.result.now = rw (c.as_slice-queues.ensures, c.as_slice-others.ensures) c.kinds-kinds.ensures in
     let it : QueuePlace = get_or c.as_slice-queues.result.now c.loop-k.k (record { prim = 0; input = 0; out = 0 }) in
     (queue_placed ms (length ms) c.as_slice-queues.result.now c.as_slice-others.result.now kinds _ c.requires.placed c.loop-k.k it (slice_get-get_or c.as_slice-queues.result.now c.loop-k.k (record { prim = 0; input = 0; out = 0 }) c.loop-k-test.true)).1
 
-pub moved_in-comes-requires : goal.moved_in-comes-requires
-moved_in-comes-requires g c =
+pub advance_queue_at-any-requires-clause-input : goal.advance_queue_at-any-requires-clause-input
+advance_queue_at-any-requires-clause-input g c =
     let ms : List Component = c.args.evaluator.now.net.prims in
     let kinds : AreKindsTo ms (length ms) c.as_slice-queues.result.now c.as_slice-others.result.now = rw (c.as_slice-queues.ensures, c.as_slice-others.ensures) c.kinds-kinds.ensures in
     let it : QueuePlace = get_or c.as_slice-queues.result.now c.loop-k.k (record { prim = 0; input = 0; out = 0 }) in
     (queue_placed ms (length ms) c.as_slice-queues.result.now c.as_slice-others.result.now kinds _ c.requires.placed c.loop-k.k it (slice_get-get_or c.as_slice-queues.result.now c.loop-k.k (record { prim = 0; input = 0; out = 0 }) c.loop-k-test.true)).0
 
-pub pass_any-any-requires : goal.pass_any-any-requires
-pass_any-any-requires g c =
+pub advance_queue_at-any-requires-clause-room : goal.advance_queue_at-any-requires-clause-room
+advance_queue_at-any-requires-clause-room g c =
     let ms : List Component = c.args.evaluator.now.net.prims in
     let kinds : AreKindsTo ms (length ms) c.as_slice-queues.result.now c.as_slice-others.result.now = rw (c.as_slice-queues.ensures, c.as_slice-others.ensures) c.kinds-kinds.ensures in
     let it : QueuePlace = get_or c.as_slice-queues.result.now c.loop-k.k (record { prim = 0; input = 0; out = 0 }) in
     let can = queue_can_by g.C.HasCell.cell ms c.args.cells.now (signals_of c.args.wires.now) c.as_slice-queues.result.now c.as_slice-others.result.now (length ms) kinds c.requires.roomy c.requires.guarded (sym c.requires.roomy.whole)
     c.loop-k.cells c.loop-k.auto.cells c.loop-k.k it (slice_get-get_or c.as_slice-queues.result.now c.loop-k.k (record { prim = 0; input = 0; out = 0 }) c.loop-k-test.true) c.loop-k.invariant.gone c.index-cells-queue.result in
-    pass_has_room it.input it.out can.0 _ (signals_of c.args.wires.now) _ c.moved_in-comes.ensures can.1
+    pass_has_room it.input it.out can.0 _ (signals_of c.args.wires.now) _ refl can.1
 
 pub bounds-changed-queue : goal.bounds-changed-queue
 bounds-changed-queue g c =
@@ -71,12 +71,12 @@ loop-k-preserved g c =
     let at = slice_get-get_or c.as_slice-queues.result.now c.loop-k.k (record { prim = 0; input = 0; out = 0 }) c.loop-k-test.true in
     record {
       gone = queue_gone_by g.C.HasCell.cell ms c.args.cells.now (signals_of c.args.wires.now) c.as_slice-queues.result.now c.as_slice-others.result.now (length ms) kinds c.requires.roomy c.requires.guarded (sym c.requires.roomy.whole)
-          c.loop-k.cells c.loop-k.auto.cells c.loop-k.k it at c.loop-k.invariant.gone c.index-cells-queue.result c.pass_any-any.new.cell
-          (λ capacity initial can. pass_went it.input it.out capacity initial _ _ (signals_of c.args.wires.now) _ _ c.moved_in-leaves.ensures c.moved_in-comes.ensures c.pass_any-any.ensures.passed can);
-      noted = noted_by g.C.HasCell.cell ms c.loop-k.cells c.args.changed.now c.loop-k.changed (signals_of c.args.wires.now) (IsAmongQueues c.as_slice-queues.result.now c.loop-k.k) (IsAmongQueues c.as_slice-queues.result.now (c.loop-k.k + 1)) it.prim c.pass_any-any.new.cell c.pass_any-any.result
+          c.loop-k.cells c.loop-k.auto.cells c.loop-k.k it at c.loop-k.invariant.gone c.index-cells-queue.result c.advance_queue_at-any.new.cell
+          (λ capacity initial can. pass_went it.input it.out capacity initial _ _ (signals_of c.args.wires.now) _ _ refl refl c.advance_queue_at-any.ensures.passed can);
+      noted = noted_by g.C.HasCell.cell ms c.loop-k.cells c.args.changed.now c.loop-k.changed (signals_of c.args.wires.now) (IsAmongQueues c.as_slice-queues.result.now c.loop-k.k) (IsAmongQueues c.as_slice-queues.result.now (c.loop-k.k + 1)) it.prim c.advance_queue_at-any.new.cell c.advance_queue_at-any.result
           (queue_within_by g.C.HasCell.cell ms c.args.cells.now (signals_of c.args.wires.now) c.as_slice-queues.result.now c.as_slice-others.result.now (length ms) kinds c.requires.roomy c.requires.guarded (sym c.requires.roomy.whole) c.loop-k.cells c.loop-k.auto.cells c.loop-k.k it at c.loop-k.invariant.gone) (queue_out c.as_slice-queues.result.now c.loop-k.k it at) (queue_in c.as_slice-queues.result.now c.loop-k.k) (queue_here c.as_slice-queues.result.now c.loop-k.k it at)
-          (λ m has none. let still = c.pass_any-any.ensures.told none in
-          queue_idle ms it (kinds.queue_at c.loop-k.k it at).0 m _ (signals_of c.args.wires.now) has (rw c.moved_in-leaves.ensures at still.0) (rw c.moved_in-comes.ensures at still.1)) c.loop-k.invariant.noted;
+          (λ m has none. let still = c.advance_queue_at-any.ensures.told none in
+          queue_idle ms it (kinds.queue_at c.loop-k.k it at).0 m _ (signals_of c.args.wires.now) has still.0 still.1) c.loop-k.invariant.noted;
     }
 
 pub loop-i-init : goal.loop-i-init
@@ -104,8 +104,8 @@ bounds-cells-other g c =
 pub offset_bounds-cells-other : goal.offset_bounds-cells-other
 offset_bounds-cells-other g c = let within = bounds-cells-other g c in search rules
 
-pub advance_holding-any-requires : goal.advance_holding-any-requires
-advance_holding-any-requires g c =
+pub advance_other-any-requires : goal.advance_other-any-requires
+advance_other-any-requires g c =
     let ms : List Component = c.args.evaluator.now.net.prims in
     let it : Holder = get_or c.as_slice-others.result.now c.loop-i.i (record { prim = 0; holds = holding.Packets 0 0 }) in
     other_can_by g.C.HasCell.cell ms c.args.cells.now (signals_of c.args.wires.now) c.loop-i.invariant.0 c.as_slice-others.result.now (length ms) c.loop-i.invariant.1.0 c.requires.roomy c.requires.guarded (sym c.requires.roomy.whole)
@@ -138,10 +138,10 @@ loop-i-preserved g c =
         kinds,
         (
           other_gone_by g.C.HasCell.cell ms c.args.cells.now (signals_of c.args.wires.now) queues c.as_slice-others.result.now (length ms) kinds c.requires.roomy c.requires.guarded (sym c.requires.roomy.whole)
-              c.loop-i.cells (c.loop-i.auto.cells ∙ c.loop-k.auto.cells) c.loop-i.i it at c.loop-i.invariant.1.1.0 c.index-cells-other.result c.advance_holding-any.new.cell (λ m can. c.advance_holding-any.ensures.gone m can standing),
-          noted_by g.C.HasCell.cell ms c.loop-i.cells c.args.changed.now c.loop-i.changed (signals_of c.args.wires.now) (IsAmongBoth queues c.as_slice-others.result.now c.loop-i.i) (IsAmongBoth queues c.as_slice-others.result.now (c.loop-i.i + 1)) it.prim c.advance_holding-any.new.cell c.advance_holding-any.result
+              c.loop-i.cells (c.loop-i.auto.cells ∙ c.loop-k.auto.cells) c.loop-i.i it at c.loop-i.invariant.1.1.0 c.index-cells-other.result c.advance_other-any.new.cell (λ m can. c.advance_other-any.ensures.gone m can standing),
+          noted_by g.C.HasCell.cell ms c.loop-i.cells c.args.changed.now c.loop-i.changed (signals_of c.args.wires.now) (IsAmongBoth queues c.as_slice-others.result.now c.loop-i.i) (IsAmongBoth queues c.as_slice-others.result.now (c.loop-i.i + 1)) it.prim c.advance_other-any.new.cell c.advance_other-any.result
               (other_within_by g.C.HasCell.cell ms c.args.cells.now (signals_of c.args.wires.now) queues c.as_slice-others.result.now (length ms) kinds c.requires.roomy c.requires.guarded (sym c.requires.roomy.whole) c.loop-i.cells (c.loop-i.auto.cells ∙ c.loop-k.auto.cells) c.loop-i.i it at c.loop-i.invariant.1.1.0) (other_out queues c.as_slice-others.result.now c.loop-i.i it at) (other_in queues c.as_slice-others.result.now c.loop-i.i) (other_here queues c.as_slice-others.result.now c.loop-i.i it at)
-              (λ m has none. c.advance_holding-any.ensures.told m (holder_is ms it (kinds.other_at c.loop-i.i it at).0 m has) standing none) c.loop-i.invariant.1.1.1,
+              (λ m has none. c.advance_other-any.ensures.told m (holder_is ms it (kinds.other_at c.loop-i.i it at).0 m has) standing none) c.loop-i.invariant.1.1.1,
         ),
       ),
     )
