@@ -1,5 +1,5 @@
 -- The cells of the queues, and then those of the other primitives, past a cycle.
-use Rattle.std.proofs.Common.{◌≡◌, ◌⊎◌, ◌||◌, ℕ, ◌+◌, ◌<◌, ◌≤◌, Bool, true, false, nat_lt, List, [], ◌∷◌, Option, Some, None, drop, length, set, get_or, slice_get, refl, sym, ap, ap₂, ◌∙◌, subst, inl, inr, arith, length-append, length-drop}
+use Rattle.std.proofs.Common.{◌≡◌, ◌⊎◌, ◌&&◌, ◌||◌, is_some, ℕ, ◌+◌, ◌<◌, ◌≤◌, Bool, true, false, nat_lt, List, [], ◌∷◌, Option, Some, None, drop, length, set, get_or, slice_get, refl, sym, ap, ap₂, ◌∙◌, subst, inl, inr, arith, length-append, length-drop}
 use Rattle.std.specs.Option.{option_to_list}
 use Rattle.std.proofs.lemmas.Bool.{cases_lt, ltb-true}
 use Rattle.std.proofs.lemmas.List.{get_or_default}
@@ -85,15 +85,20 @@ none_passed (cell.Held h) = refl
 none_passed (cell.Pref s) = refl
 none_passed cell.Nothing = refl
 
--- where neither of two channels is ready, nothing moves on them
-neither_ready : (a b : Bool) → (a || b) ≡ false → (a ≡ false) × (b ≡ false)
-neither_ready false b none = (refl, none)
-neither_ready true b none = absurd cc
+-- where neither of two channels has a move, nothing moves on them
+neither_true : (a b : Bool) → (a || b) ≡ false → (a ≡ false) × (b ≡ false)
+neither_true false b none = (refl, none)
+neither_true true b none = absurd cc
 
-pub neither_moves : (φ : Signals) (a b : ℕ) (any : Bool) → any ≡ (φ.ready a || φ.ready b) → any ≡ false → (move φ a ≡ None) × (move φ b ≡ None)
+unmoved : (ready : Bool) (offer : Option ℕ) → (ready && is_some offer) ≡ false → only_if ready offer ≡ None
+unmoved false offer none = refl
+unmoved true None none = refl
+unmoved true (Some d) none = absurd cc
+
+pub neither_moves : (φ : Signals) (a b : ℕ) (any : Bool) → any ≡ ((φ.ready a && is_some (φ.offer a)) || (φ.ready b && is_some (φ.offer b))) → any ≡ false → (move φ a ≡ None) × (move φ b ≡ None)
 neither_moves φ a b any is none =
-    let both = neither_ready (φ.ready a) (φ.ready b) (sym is ∙ none) in
-    (ap (λ (r : Bool). only_if r (φ.offer a)) both.0, ap (λ (r : Bool). only_if r (φ.offer b)) both.1)
+    let both = neither_true (φ.ready a && is_some (φ.offer a)) (φ.ready b && is_some (φ.offer b)) (sym is ∙ none) in
+    (unmoved (φ.ready a) (φ.offer a) both.0, unmoved (φ.ready b) (φ.offer b) both.1)
 
 pub passed_as : (x y : Cell) (leaves comes l k : Option ℕ) → y ≡ passed x leaves comes → leaves ≡ l → comes ≡ k → y ≡ passed x l k
 passed_as x y leaves comes l k went leaves_is comes_is = went ∙ ap₂ (passed x) leaves_is comes_is
