@@ -34,7 +34,7 @@ pub struct Trace {
 pub fn move_on(cycle: u32, channel: u32, wire: Wire) -> Option<Move>
     ensures { option_to_list result ≡ moved_on cycle channel (only_if wire.ready wire.offer) }
 {
-    // Fewer channels are ready than have an offer, so that is asked first.
+    // Where a net stands, fewer channels are ready than have an offer.
     if wire.ready
         && let Some(colour) = wire.offer
     {
