@@ -58,7 +58,7 @@ fn made_newest<'a>(
     let spare = row.copy(alloc, design)?;
     let far = FarMoves::new(alloc, design, parts, p)?;
     let own = own_oracles(alloc, design, parts, p)?;
-    let choices = tape.part_rows(alloc, t + 1, &own)?;
+    let choices = tape.part_rows(alloc, t + 1, own)?;
     Ok(Newest {
         row,
         spare,

@@ -10,7 +10,6 @@ use crate::leap::{Stops, stops_of};
 use crate::rows::{Form, number_at, row_for};
 use std::alloc::Global;
 use std::marker::Model;
-use std::snapshot::Snapshot;
 use xm_model::{Choice, List, OutOfMemory};
 
 /// Gives the wanted choices of one cycle of a tape after another. A contract sees the tape, the cycle, and which places
@@ -18,7 +17,7 @@ use xm_model::{Choice, List, OutOfMemory};
 #[derive(Drop)]
 pub struct PartRows<'t> {
     form: &'t Form,
-    own: Snapshot<List<bool>>,
+    own: List<bool>,
     stops: Stops,
     cycle: u32,
     number: u64,
@@ -34,12 +33,12 @@ impl<'t> Model for PartRows<'t> {
     ghost use Rattle.xm_tape.specs.Inner.Forms.{drawn_row, number_at, taped_of, width_drawn};
     ghost use Rattle.xm_tape.specs.Inner.Leaps.{AreStops};
 
-    ghost view = { λ it. record { tape = taped_of it.form.now; cycle = it.cycle; own = it.own.value.items } };
+    ghost view = { λ it. record { tape = taped_of it.form.now; cycle = it.cycle; own = it.own.items } };
 
     ghost invariant = { λ it. (it.number ≡ number_at it.form.now (it.cycle + 1))
         × (length it.row.items ≡ width_drawn it.form.now)
-        × AreStops it.own.value.items (width_drawn it.form.now) it.stops.stops.items it.stops.rest
-        × HasWanted it.own.value.items (drawn_row it.form.now it.cycle) it.row.items };
+        × AreStops it.own.items (width_drawn it.form.now) it.stops.stops.items it.stops.rest
+        × HasWanted it.own.items (drawn_row it.form.now it.cycle) it.row.items };
 }
 
 /// Makes the wanted choices of the row that is drawn after a number, if it is drawn, and gives the number after it.
@@ -70,17 +69,17 @@ impl<'t> PartRows<'t> {
         alloc: Global,
         form: &'t Form,
         from: u32,
-        own: &List<bool>,
+        own: List<bool>,
     ) -> Result<PartRows<'t>, OutOfMemory>
         ensures { IfOk result
-            (λ rows. rows ≡ record { tape = taped_of form.now; cycle = from; own = own.now.items }) }
+            (λ rows. rows ≡ record { tape = taped_of form.now; cycle = from; own = own.items }) }
     {
         let mut row = row_for(alloc, form)?;
         let stops = stops_of(alloc, own.as_slice(), row.len() as u32)?;
         let number = make_wanted(form, &stops, number_at(form, from), &mut row);
         Ok(PartRows {
             form,
-            own: Snapshot::of(own),
+            own,
             stops,
             cycle: from,
             number,

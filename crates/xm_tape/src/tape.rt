@@ -100,9 +100,9 @@ impl Tape {
         &self,
         alloc: Global,
         from: u32,
-        own: &List<bool>,
+        own: List<bool>,
     ) -> Result<PartRows<'_>, OutOfMemory>
-        ensures { IfOk result (λ rows. rows ≡ record { tape = self.now; cycle = from; own = own.now.items }) }
+        ensures { IfOk result (λ rows. rows ≡ record { tape = self.now; cycle = from; own = own.items }) }
     {
         PartRows::new(alloc, &self.form, from, own)
     }

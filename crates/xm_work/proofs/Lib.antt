@@ -2,3 +2,4 @@ mod Crossing
 mod Joining
 mod Underway
 mod Telling
+mod Taking

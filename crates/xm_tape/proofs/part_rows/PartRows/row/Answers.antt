@@ -15,4 +15,4 @@ returns-in-Drawn c =
     ∙ row_on form c.in-Drawn.field-0 c.in-Drawn.is place.tape place.cycle (ap (λ (p : PartPlace). p.tape) c.self.view_is) c.requires in
     rw c.as_slice.ensures
     (subst (λ (own : List Bool). HasWanted own (get_or (rows_of place.tape) place.cycle []) c.self.inside.row.items) (ap (λ (p : PartPlace). p.own) c.self.view_is)
-    (subst (λ (row : List Choice). HasWanted c.self.inside.own.value.items row c.self.inside.row.items) whole c.self.invariant.3))
+    (subst (λ (row : List Choice). HasWanted c.self.inside.own.items row c.self.inside.row.items) whole c.self.invariant.3))
