@@ -26,13 +26,13 @@ pub simulating_taken : (it : Simulating) → IsSimulating it → (board : Boarde
 simulating_taken it is board t run took =
     let floor = is.floor_is in
     let round : IsRoundOf it board.core = core_taken (IsRoundOf it) it.board t board.core took
-        (record { floor_is = is.floor_is; within = is.within; begun = is.begun; told = is.told })
-        (λ p. record {
-          floor_is = record { part = floor.part; is_part = floor.is_part; at = floor.at; least = floor.least };
-          within = is.within;
-          begun = is.begun;
-          told = is.told;
-        }) in
+    (record { floor_is = is.floor_is; within = is.within; begun = is.begun; told = is.told })
+    (λ p. record {
+      floor_is = record { part = floor.part; is_part = floor.is_part; at = floor.at; least = floor.least };
+      within = is.within;
+      begun = is.begun;
+      told = is.told;
+    }) in
     record {
       run = run ∙ is.run;
       floor_is = round.floor_is;
